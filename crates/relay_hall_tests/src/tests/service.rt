@@ -1,9 +1,8 @@
-//! `sessions` has tables of `deeds`: what happens to a service and what is due then, by bytes; `random` has the events drawn by the hall's
-//! dice, which happen in a `scene` among `people`, beside the hall's plain model. `frames` has what those that follow say and are sent.
+//! `random` has the events drawn by dice, which happen in a `scene` among `people`, beside the hall's plain model, and `memory` few of them
+//! while memory is refused. `frames` has what is sent, by bytes.
 
-mod deeds;
 mod frames;
+mod memory;
 mod people;
 mod random;
 mod scene;
-mod sessions;

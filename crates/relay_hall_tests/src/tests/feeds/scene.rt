@@ -2,8 +2,8 @@
 
 use crate::tests::hall::chance::Dice;
 use crate::tests::hall::command::text_at;
-use crate::tests::hall::heard::{Numbers, hall};
 use crate::tests::hall::room::room;
+use crate::tests::hall::values::move_text;
 use c960_board::Move;
 use c960_game::Limits;
 use relay_core::BoardName;
@@ -13,15 +13,11 @@ use std::alloc::Global;
 use std::process::Abort;
 use watch_port::{BoardCopy, BoardTable, Feed, Publisher};
 
+/// Boards, followers of each, moves in a queue, plies of a game.
+pub type Numbers = (u16, u16, u16, u16);
+
 /// How many loops there are.
 const LOOPS: usize = 3;
-
-/// The moves of two knights there and back.
-static MOVES: [&str; 4] = ["g1f3", "g8f6", "f3g1", "f6g8"];
-
-fn moves() -> &'static [&'static str] {
-    &MOVES
-}
 
 /// Endings, of which the last asks for nothing that a relay knows.
 static ENDINGS: [&str; 3] = [
@@ -97,7 +93,7 @@ impl Scene {
             alloc,
             dice: Dice { seed },
             boards,
-            hall: hall(rt, alloc, numbers, 0),
+            hall: Hall::new(alloc, limits, 0).expect(rt, "memory"),
             conn: Conn::new(alloc),
             publisher: Publisher::new(alloc, feeds),
             tables,
@@ -139,19 +135,24 @@ impl Scene {
     /// A loop takes in what it was told. It shows beginnings then.
     fn one_takes_in(&mut self, rt: &impl Abort) {
         let which = self.dice.below(LOOPS as u32) as usize;
-        if let Some(table) = self.tables.get_mut(which) {
-            table.take_in().expect(rt, "memory");
-        }
+        self.takes_in(which);
         assert!(rt; self.shows_beginnings());
         if !self.shows_all() {
             self.late = self.late.wrapping_add(1);
         }
     }
 
+    /// A loop takes in what it was told. Without memory it shows that it has not.
+    fn takes_in(&mut self, which: usize) {
+        if let Some(table) = self.tables.get_mut(which) {
+            let _ = table.take_in();
+        }
+    }
+
     /// All loops take in what they were told.
     pub fn take_in(&mut self) {
-        for table in self.tables.iter_mut() {
-            let _ = table.take_in();
+        for which in 0..LOOPS {
+            self.takes_in(which);
         }
     }
 
@@ -173,7 +174,7 @@ impl Scene {
 
     /// The move is played that goes on at this place.
     pub fn plays(&mut self, rt: &impl Abort, board: u16, place: u16) {
-        let word = text_at(moves(), usize::from(place % 4));
+        let word = move_text(place);
         let text = format!(in self.alloc;
             "{{\"cmd\":\"submit\",\"board\":\"b{board}\",\"move\":\"{word}\"}}"
         );

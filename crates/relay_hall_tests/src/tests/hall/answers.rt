@@ -46,7 +46,3 @@ pub const WRONG_MODE: &str = "{\"code\":14,\"name\":\"WrongMode\",\"reply\":\"re
 pub const TOO_FAR_BACK: &str = "{\"code\":15,\"name\":\"TooFarBack\",\"reply\":\"refused\"}";
 
 pub const NOT_YET: &str = "{\"code\":16,\"name\":\"NotYet\",\"reply\":\"refused\"}";
-
-pub const NOT_JSON: &str = "{\"code\":21,\"name\":\"NotJson\",\"reply\":\"refused\"}";
-
-pub const BAD_FIELD: &str = "{\"code\":24,\"name\":\"BadField\",\"reply\":\"refused\"}";

@@ -1,10 +1,8 @@
 //! Whether a hall shows and answers what the model has.
 
-use crate::tests::hall::plain::{BOARDS, CAPACITY, Plain, Row};
+use crate::tests::hall::plain::{Plain, Row};
 use crate::tests::hall::values::{Values, last, move_at, name};
 use c960_board::Move;
-use live_board::Follower;
-use relay_core::Taken;
 use relay_hall::{Hall, Shown};
 use std::alloc::AllocError;
 
@@ -77,18 +75,6 @@ pub fn is_quiet(plain: &Plain) -> bool {
     true
 }
 
-/// Whether the hall tells once of each board of the model that has changed, and of no other.
-pub fn tells_changes(hall: &mut Hall, plain: &mut Plain) -> bool {
-    for _ in 0..=BOARDS {
-        match hall.take_changed() {
-            Some(at) if was_changed(plain, at) => {}
-            Some(_) => return false,
-            None => return is_quiet(plain),
-        }
-    }
-    false
-}
-
 /// Whether these are the moves of a board from this place on, to the last.
 fn are_moves(moves: &[Move], row: &Row, from: u16) -> bool {
     let mut place = from;
@@ -112,34 +98,5 @@ pub fn tells(
     match shown.moves_from(from, moves) {
         Ok(outcome) => Ok(outcome == row.outcome && are_moves(moves.as_slice(), row, from)),
         Err(error) => Err(error),
-    }
-}
-
-/// Whether a follower takes the move of this place.
-fn takes_move(follower: &mut Follower, place: u16) -> bool {
-    match move_at(place) {
-        Some(m) => follower.take() == Taken::Move(place, m),
-        None => false,
-    }
-}
-
-/// Whether a follower that has taken nothing takes what is due from this place on: the moves, and then the end, nothing yet, or that it was
-/// too slow.
-pub fn takes(follower: &mut Follower, row: &Row, joined: u16) -> bool {
-    let due = row.plies.wrapping_sub(joined);
-    for nth in 0..due.min(CAPACITY) {
-        if !takes_move(follower, joined.wrapping_add(nth)) {
-            return false;
-        }
-    }
-    follower.take() == last_of(row, due)
-}
-
-/// What a follower takes after the moves of which so many were due.
-pub fn last_of(row: &Row, due: u16) -> Taken {
-    match row.outcome {
-        _ if due > CAPACITY => Taken::Cut,
-        Some(outcome) => Taken::Over(outcome),
-        None => Taken::Nothing,
     }
 }

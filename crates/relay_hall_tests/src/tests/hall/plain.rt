@@ -22,7 +22,7 @@ pub const PLIES: u16 = 10;
 pub const KEYS: usize = 6;
 
 /// The number of no connection.
-const NOBODY: u64 = 0;
+const NOBODY: u64 = u64::MAX;
 
 /// A board.
 #[derive(Clone, Copy)]
@@ -33,6 +33,8 @@ pub struct Row {
     pub plies: u16,
     pub outcome: Option<Outcome>,
     pub followers: u16,
+    /// Whether it is known to have no vacant slot.
+    pub is_full: bool,
     /// Whether its game has changed since that was last told.
     pub has_changed: bool,
 }
@@ -80,6 +82,8 @@ pub struct Plain {
     pub grace: u64,
     pub time: u64,
     pub is_shut: bool,
+    /// Whether a follow that might be made was refused since that was last told.
+    has_turned_away: bool,
     /// What has occurred.
     pub seen: Seen,
 }
@@ -141,7 +145,7 @@ impl Row {
         if self.plies.wrapping_sub(place) > CAPACITY {
             return Answer::Text(TOO_FAR_BACK);
         }
-        if self.followers >= FOLLOWERS {
+        if self.followers >= FOLLOWERS || self.is_full {
             return Answer::Text(TOO_MANY_FOLLOWERS);
         }
         self.followers = self.followers.wrapping_add(1);
@@ -158,6 +162,7 @@ impl Plain {
             grace,
             time: 0,
             is_shut: false,
+            has_turned_away: false,
             seen: Seen::new(rt, alloc),
         }
     }
@@ -225,7 +230,7 @@ impl Plain {
     }
 
     /// Whether any board is the speaker's.
-    fn has_any(&self, speaker: Speaker) -> bool {
+    pub fn has_any(&self, speaker: Speaker) -> bool {
         for row in self.rows.iter() {
             if row.is_of(speaker) {
                 return true;
@@ -235,7 +240,7 @@ impl Plain {
     }
 
     /// Whether a board was opened with this key.
-    pub fn has_any_of(&self, key: usize) -> bool {
+    fn has_any_of(&self, key: usize) -> bool {
         self.has_any(Speaker {
             number: NOBODY,
             key,
@@ -260,6 +265,7 @@ impl Plain {
             plies: 0,
             outcome: None,
             followers: 0,
+            is_full: false,
             has_changed: false,
         });
         Answer::Text(OPENED)
@@ -289,9 +295,29 @@ impl Plain {
             return Answer::Text(WRONG_MODE);
         }
         let at = self.find(name);
-        match self.rows.get_mut(at) {
+        let answer = match self.rows.get_mut(at) {
             Some(row) => row.follow(at, from.unwrap_or(row.plies)),
             None => Answer::Text(NO_SUCH_BOARD),
+        };
+        self.has_turned_away = matches!(answer, Answer::Text(_));
+        answer
+    }
+
+    /// Whether a follow that might be made was refused since that was last told.
+    pub fn take_turned_away(&mut self) -> bool {
+        let has_turned_away = self.has_turned_away;
+        self.has_turned_away = false;
+        has_turned_away
+    }
+
+    /// The board of this index, if there is one, is known to have no vacant slot, or is not. Returns whether there is one, or never can be.
+    pub fn knows_full(&mut self, at: usize, is_full: bool) -> bool {
+        match self.rows.get_mut(at) {
+            Some(row) => {
+                row.is_full = is_full;
+                true
+            }
+            None => at >= usize::from(BOARDS),
         }
     }
 
@@ -303,9 +329,11 @@ impl Plain {
 
     /// Each game of these that goes on is abandoned.
     fn abandon(&mut self, left: Left) {
-        for row in self.rows.iter_mut() {
-            if row.is_left(left) {
-                row.ends(Outcome::Abandoned);
+        for at in 0..self.rows.len() {
+            if let Some(row) = self.rows.get_mut(at) {
+                if row.is_left(left) {
+                    row.ends(Outcome::Abandoned);
+                }
             }
         }
     }
@@ -324,19 +352,22 @@ impl Plain {
         }
     }
 
-    /// Returns whether boards waited.
-    pub fn arrive(&mut self, key: usize) -> bool {
-        let before = self.stand(key);
-        let (count, waited) = match before {
-            Stand::Gone => (1, false),
-            Stand::Here(count) => (count.wrapping_add(1), false),
-            Stand::Waits(_) => (1, true),
+    /// A connection with this key comes, if it is one.
+    pub fn arrive(&mut self, key: usize) {
+        let count = match self.stand(key) {
+            Stand::Gone => 1,
+            Stand::Here(count) => count.wrapping_add(1),
+            Stand::Waits(_) => {
+                self.seen.note("came back");
+                1
+            }
         };
         self.set_stand(key, Stand::Here(count));
-        if waited {
-            self.seen.note("came back");
-        }
-        waited
+    }
+
+    /// Whether boards of this key wait.
+    pub fn waits(&self, key: usize) -> bool {
+        matches!(self.stand(key), Stand::Waits(_))
     }
 
     /// What is left of the connections with this key once one goes.

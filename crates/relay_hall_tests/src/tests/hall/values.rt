@@ -5,7 +5,6 @@ use crate::tests::hall::plain::Answer;
 use crate::tests::hall::room::room;
 use c960_board::{Move, Position, read_fen, read_move};
 use relay_core::BoardName;
-use relay_hall::Key;
 use std::alloc::Global;
 use std::process::Abort;
 
@@ -57,22 +56,20 @@ static POSITIONS: [&str; 11] = [
     "rnbqkb1r/pppppppp/5n2/8/8/5N2/PPPPPPPP/RNBQKB1R w HAha - 10 6",
 ];
 
-/// What is behind such a position in the answer to a follow from that place.
-static BEHIND: [&str; 11] = [
-    "\",\"joined\":0,\"reply\":\"following\"}",
-    "\",\"joined\":1,\"reply\":\"following\"}",
-    "\",\"joined\":2,\"reply\":\"following\"}",
-    "\",\"joined\":3,\"reply\":\"following\"}",
-    "\",\"joined\":4,\"reply\":\"following\"}",
-    "\",\"joined\":5,\"reply\":\"following\"}",
-    "\",\"joined\":6,\"reply\":\"following\"}",
-    "\",\"joined\":7,\"reply\":\"following\"}",
-    "\",\"joined\":8,\"reply\":\"following\"}",
-    "\",\"joined\":9,\"reply\":\"following\"}",
-    "\",\"joined\":10,\"reply\":\"following\"}",
+/// What a follow from the place of each of them is answered.
+static FOLLOWING: [&str; 11] = [
+    "{\"fen\":\"rnbqkbnr/pppppppp/8/8/8/8/PPPPPPPP/RNBQKBNR w HAha - 0 1\",\"joined\":0,\"reply\":\"following\"}",
+    "{\"fen\":\"rnbqkbnr/pppppppp/8/8/8/5N2/PPPPPPPP/RNBQKB1R b HAha - 1 1\",\"joined\":1,\"reply\":\"following\"}",
+    "{\"fen\":\"rnbqkb1r/pppppppp/5n2/8/8/5N2/PPPPPPPP/RNBQKB1R w HAha - 2 2\",\"joined\":2,\"reply\":\"following\"}",
+    "{\"fen\":\"rnbqkb1r/pppppppp/5n2/8/8/8/PPPPPPPP/RNBQKBNR b HAha - 3 2\",\"joined\":3,\"reply\":\"following\"}",
+    "{\"fen\":\"rnbqkbnr/pppppppp/8/8/8/8/PPPPPPPP/RNBQKBNR w HAha - 4 3\",\"joined\":4,\"reply\":\"following\"}",
+    "{\"fen\":\"rnbqkbnr/pppppppp/8/8/8/5N2/PPPPPPPP/RNBQKB1R b HAha - 5 3\",\"joined\":5,\"reply\":\"following\"}",
+    "{\"fen\":\"rnbqkb1r/pppppppp/5n2/8/8/5N2/PPPPPPPP/RNBQKB1R w HAha - 6 4\",\"joined\":6,\"reply\":\"following\"}",
+    "{\"fen\":\"rnbqkb1r/pppppppp/5n2/8/8/8/PPPPPPPP/RNBQKBNR b HAha - 7 4\",\"joined\":7,\"reply\":\"following\"}",
+    "{\"fen\":\"rnbqkbnr/pppppppp/8/8/8/8/PPPPPPPP/RNBQKBNR w HAha - 8 5\",\"joined\":8,\"reply\":\"following\"}",
+    "{\"fen\":\"rnbqkbnr/pppppppp/8/8/8/5N2/PPPPPPPP/RNBQKB1R b HAha - 9 5\",\"joined\":9,\"reply\":\"following\"}",
+    "{\"fen\":\"rnbqkb1r/pppppppp/5n2/8/8/5N2/PPPPPPPP/RNBQKB1R w HAha - 10 6\",\"joined\":10,\"reply\":\"following\"}",
 ];
-
-const IN_FRONT: &str = "{\"fen\":\"";
 
 fn keys() -> &'static [&'static str] {
     &KEYS
@@ -95,8 +92,9 @@ fn fens() -> &'static [&'static str] {
     &POSITIONS
 }
 
-fn behind() -> &'static [&'static str] {
-    &BEHIND
+/// The answers to follows.
+fn followings() -> &'static [&'static str] {
+    &FOLLOWING
 }
 
 /// The text of the key of this number, or none.
@@ -104,19 +102,19 @@ pub fn key_text(number: usize) -> &'static str {
     text_at(keys(), number)
 }
 
-/// The key of this number, if there is one.
-pub fn key(number: usize) -> Option<Key> {
-    Key::parse(key_text(number).as_bytes())
-}
-
 /// The name of this number.
 pub fn name(number: u32) -> Option<BoardName> {
     BoardName::new(text_at(names(), number as usize).as_bytes())
 }
 
+/// The text of the move of this place.
+pub fn move_text(place: u16) -> &'static str {
+    text_at(moves(), usize::from(place % 4))
+}
+
 /// The move of this place.
 pub fn move_at(place: u16) -> Option<Move> {
-    read_move(text_at(moves(), usize::from(place % 4)).as_bytes()).ok()
+    read_move(move_text(place).as_bytes()).ok()
 }
 
 /// The move before this place.
@@ -128,22 +126,12 @@ pub fn last(place: u16) -> Option<Move> {
     }
 }
 
-/// Whether this is said to a follow from this place.
-fn is_following(text: &str, place: u16) -> bool {
-    let place = usize::from(place);
-    let fen = text_at(fens(), place);
-    let Some(rest) = text.as_bytes().strip_prefix(IN_FRONT.as_bytes()) else {
-        return false;
-    };
-    rest.strip_prefix(fen.as_bytes()) == Some(text_at(behind(), place).as_bytes())
-}
-
-/// Whether the text is that of the answer.
-pub fn is_text_of(text: &str, answer: Answer) -> bool {
+/// The text of the answer.
+pub fn text_of(answer: Answer) -> &'static str {
     match answer {
-        Answer::Text(wanted) => text == wanted,
-        Answer::Played(place) => text == text_at(played(), usize::from(place)),
-        Answer::Joined(_, place) => is_following(text, place),
+        Answer::Text(text) => text,
+        Answer::Played(place) => text_at(played(), usize::from(place)),
+        Answer::Joined(_, place) => text_at(followings(), usize::from(place)),
     }
 }
 

@@ -1,11 +1,32 @@
-//! What those that follow say, and what they are sent, by bytes. The texts are those of docs/PROTOCOL.md.
+//! What connections send and are sent, by bytes: the request (RFC 6455, sections 1.3 and 4), and frames of fewer than 126 bytes, from their
+//! first byte on (section 5.2). The texts are those of docs/PROTOCOL.md.
 
-use crate::tests::calling::frames::{CLOSE, PING, PONG, TEXT, add, asked, tell};
 use crate::tests::hall::command::answer_of;
+use crate::tests::hall::room::TWICE;
 use crate::tests::service::people::Saying;
 use c960_game::Outcome;
 use std::alloc::Global;
 use std::process::Abort;
+
+/// What follows the target in a request for a WebSocket. The key is that of section 1.3.
+pub const BEHIND_TARGET: &[u8] =
+    b" HTTP/1.1\r\nHost: a\r\nConnection: upgrade\r\nUpgrade: websocket\r\nSec-WebSocket-Version: 13\r\nSec-WebSocket-Key: dGhlIHNhbXBsZSBub25jZQ==\r\n\r\n";
+
+/// The answer to such a request.
+pub const ACCEPTED: &[u8] =
+    b"HTTP/1.1 101 Switching Protocols\r\nconnection: Upgrade\r\nupgrade: websocket\r\nsec-websocket-accept: s3pPLMBiTxaQ9kYGzzhZRbK+xOo=\r\n\r\n";
+
+/// The first byte of a whole text.
+pub const TEXT: u8 = 0x81;
+
+/// Of a close.
+pub const CLOSE: u8 = 0x88;
+
+/// Of a ping.
+pub const PING: u8 = 0x89;
+
+/// Of a pong.
+pub const PONG: u8 = 0x8a;
 
 /// The moves of a board, each with its place.
 static MOVED: [&str; 10] = [
@@ -43,6 +64,28 @@ const HUNDRED: &[u8; 100] = &[b'-'; 100];
 
 fn moved() -> &'static [&'static str] {
     &MOVED
+}
+
+/// Appends bytes. If it is refused memory, it asks again.
+pub fn add(rt: &impl Abort, list: &mut Vec<u8>, bytes: &[u8]) {
+    if list.extend_from_slice(bytes).is_err() {
+        list.extend_from_slice(bytes).expect(rt, TWICE);
+    }
+}
+
+/// A frame as a client sends it, masked with zeros.
+pub fn asked(rt: &impl Abort, alloc: Global, first: u8, payload: &[u8]) -> Vec<u8> {
+    let mut bytes = Vec::new(alloc);
+    let size = 0x80 | (payload.len() % 126) as u8;
+    add(rt, &mut bytes, &[first, size, 0, 0, 0, 0]);
+    add(rt, &mut bytes, payload);
+    bytes
+}
+
+/// Appends a frame as a server sends it.
+pub fn tell(rt: &impl Abort, bytes: &mut Vec<u8>, first: u8, payload: &[u8]) {
+    add(rt, bytes, &[first, (payload.len() % 126) as u8]);
+    add(rt, bytes, payload);
 }
 
 /// Appends the frame of the move of this place.

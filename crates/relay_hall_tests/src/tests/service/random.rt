@@ -1,9 +1,10 @@
-//! Random events: sixty connections, six keys, two graces, and bytes in pieces of any size. After each event the service shows what the
+//! Random events: sixty connections, six keys, three graces, and bytes in pieces of any size. After each event the service shows what the
 //! plain model has, and to each connection is due what the model answered it.
 
 use crate::tests::hall::answers::{
-    AGREED, BAD_START, BOARD_EXISTS, CLAIM_REFUSED, GAME_OVER, ILLEGAL, LOG_FULL, NOT_YET,
-    NOT_YOUR_BOARD, OPENED, TOO_FAR_BACK, TOO_MANY_BOARDS, TOO_MANY_FOLLOWERS, WRONG_MODE,
+    AGREED, BAD_START, BLACK_LOSES_ON_TIME, BLACK_RESIGNS, BLACK_WINS, BOARD_EXISTS, CLAIM_REFUSED,
+    DRAWN, GAME_OVER, ILLEGAL, LOG_FULL, NO_SUCH_BOARD, NOT_YET, NOT_YOUR_BOARD, OPENED, THREEFOLD,
+    TOO_FAR_BACK, TOO_MANY_BOARDS, TOO_MANY_FOLLOWERS, WHITE_LOSES_ON_TIME, WHITE_WINS, WRONG_MODE,
 };
 use crate::tests::hall::seen::Seen;
 use crate::tests::service::people::people;
@@ -12,16 +13,33 @@ use std::alloc::Global;
 use std::process::Abort;
 
 /// How many services there are for each grace, and how many events in each.
-const SERVICES: u32 = 12;
+const SERVICES: u32 = 40;
 
-const EVENTS: u32 = 6000;
+const EVENTS: u32 = 4000;
 
 /// What occurs with any grace.
-static WORDS: [&str; 24] = [
+static WORDS: [&str; 33] = [
     "played",
     "following",
+    "nothing yet",
+    "over",
+    "over, as the server ends",
+    "cut",
+    "closes",
+    "breach",
+    "too many messages",
+    "closed",
+    "gone",
     OPENED,
     AGREED,
+    BLACK_RESIGNS,
+    WHITE_LOSES_ON_TIME,
+    BLACK_LOSES_ON_TIME,
+    WHITE_WINS,
+    BLACK_WINS,
+    DRAWN,
+    THREEFOLD,
+    NO_SUCH_BOARD,
     BOARD_EXISTS,
     BAD_START,
     TOO_MANY_BOARDS,
@@ -34,18 +52,10 @@ static WORDS: [&str; 24] = [
     WRONG_MODE,
     TOO_FAR_BACK,
     NOT_YET,
-    "over",
-    "over, as the server ends",
-    "cut",
-    "closes",
-    "breach",
-    "too many messages",
-    "closed",
-    "gone",
 ];
 
 /// What occurs if there is a grace.
-static WAITING: [&str; 3] = ["waits", "came back", "ran out"];
+static WAITING: [&str; 4] = ["waits", "came back", "ran out", "shut out"];
 
 fn words() -> &'static [&'static str] {
     &WORDS
@@ -62,6 +72,7 @@ fn run_one(rt: &impl Abort, alloc: Global, grace: u64, seed: u32, seen: &mut See
     for _ in 0..EVENTS {
         scene.happens(rt, people.as_mut_slice());
     }
+    assert!(rt; scene.refused == 0);
     seen.note_all(&scene.plain.seen);
 }
 
@@ -85,6 +96,11 @@ fn run(rt: &impl Abort, alloc: Global, grace: u64) {
 #[test]
 fn a_service_without_a_grace_is_the_plain_one(rt: HostRuntime) {
     run(&rt, rt.alloc(), 0);
+}
+
+#[test]
+fn a_service_with_a_short_grace_is_the_plain_one(rt: HostRuntime) {
+    run(&rt, rt.alloc(), 40);
 }
 
 #[test]

@@ -1,28 +1,39 @@
 //! A service among its connections, and the hall's model beside it. What connections send comes in pieces of any size, and what is due to
-//! them is taken so.
+//! them is taken so. At most one allocation is refused; whoever was refused finds nothing changed and asks again, or is lost.
 
 mod following;
+mod refused;
 
-use crate::tests::calling::frames::{PING, TEXT, add, asked, tell};
-use crate::tests::calling::requests::{ACCEPTED, BEHIND_TARGET};
 use crate::tests::hall::chance::Dice;
 use crate::tests::hall::command::Command;
-use crate::tests::hall::comparing::{is_quiet, shows, was_changed};
+use crate::tests::hall::comparing::{is_quiet, shows, tells, was_changed};
 use crate::tests::hall::plain::{Answer, BOARDS, CAPACITY, FOLLOWERS, KEYS, PLIES, Plain};
-use crate::tests::hall::values::{Values, is_text_of, key_text};
+use crate::tests::hall::room::{TWICE, room};
+use crate::tests::hall::values::{Values, key_text, text_of};
 use crate::tests::holds;
-use crate::tests::service::frames::tell_close;
+use crate::tests::service::frames::{
+    ACCEPTED, BEHIND_TARGET, PING, TEXT, add, asked, tell, tell_close,
+};
 use crate::tests::service::people::{Course, PEOPLE, Person, Saying, remove_first};
+use c960_board::Move;
 use c960_game::Limits;
 use relay_frames::Code;
+use relay_hall::Owner;
 use relay_service::{Service, Stage};
-use std::alloc::Global;
+use std::alloc::{AllocError, Global};
 use std::process::Abort;
 
 /// After so many events more connections go than come, and after some more it is the other way round again.
 const EBB: u32 = 900;
 
 const FLOOD: u32 = 1500;
+
+/// Codes by which a connection is closed (RFC 6455, section 7.4.1).
+static CODES: [u16; 4] = [1000, 1001, 1008, 1013];
+
+fn codes() -> &'static [u16] {
+    &CODES
+}
 
 /// A service and its model.
 #[derive(Drop)]
@@ -32,30 +43,23 @@ pub struct Scene {
     service: Service,
     pub plain: Plain,
     values: Values,
+    moves: Vec<Move>,
     events: u32,
     /// Whether all games were ended.
     is_ending: bool,
     /// How many connections there have been.
     numbers: u64,
+    /// How often memory was refused.
+    pub refused: u32,
 }
 
-/// A service whose first connection, of number 0, is nobody of the model.
+/// A service.
 fn made(rt: &impl Abort, alloc: Global, grace: u64) -> Service {
     let limits = Limits::new(BOARDS, FOLLOWERS, CAPACITY, PLIES).expect(rt, "limits");
-    let mut service = Service::new(alloc, limits, grace, true).expect(rt, "memory");
-    let nobody = service.connect().expect(rt, "memory");
-    service.disconnect(nobody);
-    service
-}
-
-/// Whether behind so many bytes these are the frame of the answer.
-fn is_answer(bytes: &[u8], due: usize, answer: Answer) -> bool {
-    let (_, frame) = bytes.split_at(due.min(bytes.len()));
-    let (head, text) = frame.split_at(2.min(frame.len()));
-    let Ok(text) = str::from_utf8(text) else {
-        return false;
-    };
-    head == [TEXT, (text.len() % 126) as u8].as_slice() && is_text_of(text, answer)
+    match Service::new(alloc, limits, grace, true) {
+        Ok(service) => service,
+        Err(AllocError) => Service::new(alloc, limits, grace, true).expect(rt, TWICE),
+    }
 }
 
 /// What a service shows of a connection that does this.
@@ -77,9 +81,11 @@ impl Scene {
             service: made(rt, alloc, grace),
             plain: Plain::new(rt, alloc, grace),
             values: Values::new(rt, alloc),
+            moves: Vec::new(alloc),
             events: 0,
             is_ending: false,
-            numbers: 1,
+            numbers: 0,
+            refused: 0,
         }
     }
 
@@ -89,11 +95,21 @@ impl Scene {
         match self.dice.below(80) {
             0..=2 => self.passes(),
             3 => self.ends(),
+            4 => self.knows_full(),
             _ => self.somebody(rt, people),
         }
+        self.assert_shown(rt);
+    }
+
+    /// The service shows and tells what the model has.
+    fn assert_shown(&mut self, rt: &impl Abort) {
         let is_shown = shows(self.service.hall(), &self.plain, &self.values);
         holds(rt, is_shown, "shows");
         holds(rt, self.tells_changes(), "changes");
+        holds(rt, self.tells_moves(rt), "moves");
+        let has_turned_away = self.plain.take_turned_away();
+        let is_told = self.service.take_turned_away() == has_turned_away;
+        holds(rt, is_told, "turned away");
     }
 
     /// Time goes on, or is told late.
@@ -112,11 +128,20 @@ impl Scene {
                 self.plain.end_all();
                 self.is_ending = true;
             }
-            1 => {
+            1..=3 => {
                 self.service.shut();
                 self.plain.shut();
             }
             _ => {}
+        }
+    }
+
+    /// A board is known to have no vacant slot, or is not any more; or that is said of a board that cannot be.
+    fn knows_full(&mut self) {
+        let at = self.dice.below(u32::from(BOARDS).wrapping_add(4)) as usize;
+        let is_full = self.dice.below(4) == 0;
+        if self.plain.knows_full(at, is_full) {
+            self.service.knows_full(at, is_full);
         }
     }
 
@@ -130,6 +155,27 @@ impl Scene {
             }
         }
         false
+    }
+
+    /// Whether any board tells its moves from any place on. If it is refused, it is asked again.
+    fn tells_moves(&mut self, rt: &impl Abort) -> bool {
+        let at = self.dice.below(u32::from(BOARDS)) as usize;
+        let from = self.dice.few(12);
+        match self.told(at, from) {
+            Ok(is_told) => is_told,
+            Err(AllocError) => {
+                self.is_refused(rt);
+                self.told(at, from).expect(rt, TWICE)
+            }
+        }
+    }
+
+    /// Whether the board of this index tells its moves from this place on, if there is one.
+    fn told(&mut self, at: usize, from: u16) -> Result<bool, AllocError> {
+        match (self.plain.rows.get(at), self.service.hall().board(at)) {
+            (Some(row), Some(shown)) => tells(&shown, row, from, &mut self.moves),
+            _ => Ok(true),
+        }
     }
 
     /// Whether more go than come.
@@ -153,10 +199,13 @@ impl Scene {
 
     /// A connection comes, whose request names one of the keys or none. Nobody had its number before.
     fn comes(&mut self, rt: &impl Abort, person: &mut Person) {
-        let key = (self.dice.below(12) as usize).min(KEYS);
-        let number = self.service.connect().expect(rt, "memory");
+        let Ok(number) = self.service.connect() else {
+            self.is_refused(rt);
+            return;
+        };
         holds(rt, number == self.numbers, "a new number");
         self.numbers = number.wrapping_add(1);
+        let key = (self.dice.below(12) as usize).min(KEYS);
         person.begins(number, key);
         add(rt, &mut person.unsent, b"GET /?key=");
         add(rt, &mut person.unsent, key_text(key).as_bytes());
@@ -169,6 +218,13 @@ impl Scene {
         holds(rt, is_due, "due");
         let is_so = self.service.stage(person.number) == stage_of(person.course);
         holds(rt, is_so && self.is_at(person), "what it does");
+        holds(rt, self.owns_as_told(person), "whether it owns a board");
+    }
+
+    /// Whether a connection that asks owns a board exactly if it does in the model.
+    fn owns_as_told(&self, person: &Person) -> bool {
+        person.course != Course::Asks
+            || self.service.is_owner(person.number) == self.plain.has_any(person.speaker)
     }
 
     /// A connection sends something, takes something, is sent something unasked, or goes.
@@ -191,24 +247,35 @@ impl Scene {
 
     /// A connection sends a piece of what it has yet to send. One that has sent all says something new.
     fn sends(&mut self, rt: &impl Abort, person: &mut Person) {
-        if person.unsent.is_empty() && person.course == Course::Asks {
-            let command = Command::drawn(&mut self.dice, &self.plain, person.speaker);
-            let text = command.spelt(rt, self.alloc);
-            person.unsent = asked(rt, self.alloc, TEXT, text.as_str().as_bytes());
-            person.command = Some(command);
-        } else if person.unsent.is_empty() && person.course == Course::Follows {
-            self.begins_to_say(rt, person);
+        if person.unsent.is_empty() {
+            self.begins(rt, person);
         }
         let n = self.size(person).min(person.unsent.len());
         let (piece, _) = person.unsent.split_at(n.min(person.unsent.len()));
-        holds(
-            rt,
-            self.service.receive(person.number, piece).is_ok(),
-            "memory",
-        );
+        if self.service.receive(person.number, piece).is_err() {
+            self.is_not_heard(rt, person);
+            return;
+        }
         let is_last = n > 0 && n == person.unsent.len();
         remove_first(&mut person.unsent, n);
         self.is_answered(rt, person, is_last);
+    }
+
+    /// A connection says something new, if it asks or follows.
+    fn begins(&mut self, rt: &impl Abort, person: &mut Person) {
+        if person.course == Course::Asks {
+            let command = Command::drawn(&mut self.dice, &self.plain, person.speaker);
+            self.asks(rt, person, command);
+        } else if person.course == Course::Follows {
+            self.begins_to_say(rt, person);
+        }
+    }
+
+    /// A connection is going to send this command.
+    fn asks(&self, rt: &impl Abort, person: &mut Person, command: Command) {
+        let text = command.spelt(rt, self.alloc);
+        person.unsent = asked(rt, self.alloc, TEXT, text.as_str().as_bytes());
+        person.command = Some(command);
     }
 
     /// How many bytes the next piece has: few, or as many as there are. A breach comes whole, since its first byte is one.
@@ -220,13 +287,28 @@ impl Scene {
 
     /// What a connection sent is answered if it was the last piece of a command, or of what it says that follows, and otherwise nothing is.
     fn is_answered(&mut self, rt: &impl Abort, person: &mut Person, is_last: bool) {
-        let some = self.service.answer(person.number).expect(rt, "memory");
-        let is_heard = is_last && matches!(person.course, Course::Asks | Course::Follows);
-        holds(rt, some == is_heard, "answered");
+        let Some(some) = self.answers(rt, person) else {
+            return;
+        };
+        let asks = person.course == Course::Asks;
+        let speaks = asks || person.course == Course::Follows;
+        holds(rt, some == (is_last && speaks), "answered");
+        let asks_on = asks && self.service.stage(person.number) == Some(Stage::Asks);
+        let has_said = self.service.take_said(person.number);
+        holds(rt, has_said == (is_last && asks_on), "said");
+        let is_midway = self.service.is_midway(person.number);
+        holds(rt, is_midway == !is_last || !speaks, "in the middle");
+        if is_last {
+            self.is_heard(rt, person);
+        }
+    }
+
+    /// What a connection has said is met.
+    fn is_heard(&mut self, rt: &impl Abort, person: &mut Person) {
         match (person.course, person.command) {
-            (Course::Asks, Some(command)) if is_last => self.steps(rt, person, command),
-            (Course::Follows, _) if is_last => self.is_heard(rt, person),
-            (Course::Comes, _) if is_last => self.is_accepted(rt, person),
+            (Course::Asks, Some(command)) => self.steps(rt, person, command),
+            (Course::Follows, _) => self.is_served(rt, person),
+            (Course::Comes, _) => self.is_accepted(rt, person),
             _ => {}
         }
     }
@@ -235,24 +317,18 @@ impl Scene {
     fn is_accepted(&mut self, rt: &impl Abort, person: &mut Person) {
         add(rt, &mut person.due, ACCEPTED);
         person.course = Course::Asks;
-        if person.speaker.key < KEYS {
-            self.plain.arrive(person.speaker.key);
-        }
+        self.plain.arrive(person.speaker.key);
     }
 
-    /// The model makes the step of a connection. What is due behind what was due is the frame of its answer.
+    /// The model makes the step of a connection, to which its answer is due; unless it was refused for want of memory, and asks again.
     fn steps(&mut self, rt: &impl Abort, person: &mut Person, command: Command) {
+        if self.has_no_memory(rt, person) {
+            self.asks(rt, person, command);
+            return;
+        }
         let answer = self.plain.step(person.speaker, command);
         person.command = None;
-        let output = self.service.output(person.number);
-        holds(rt, output.starts_with(person.due.as_slice()), "due before");
-        holds(
-            rt,
-            is_answer(output, person.due.len(), answer),
-            "its answer",
-        );
-        person.due.clear();
-        add(rt, &mut person.due, output);
+        tell(rt, &mut person.due, TEXT, text_of(answer).as_bytes());
         if let Answer::Joined(board, place) = answer {
             person.follows(board, place);
         }
@@ -269,16 +345,18 @@ impl Scene {
 
     /// A connection is pinged, which does nothing to one that neither asks nor follows.
     fn is_pinged(&mut self, rt: &impl Abort, person: &mut Person) {
-        holds(rt, self.service.ping(person.number).is_ok(), "memory");
-        if matches!(person.course, Course::Asks | Course::Follows) {
+        if self.service.ping(person.number).is_err() {
+            self.is_refused(rt);
+        } else if matches!(person.course, Course::Asks | Course::Follows) {
             tell(rt, &mut person.due, PING, b"");
         }
     }
 
-    /// A connection is closed with 1001, or it goes from the hall.
+    /// A connection is closed, or it goes from the hall.
     fn is_closed_or_leaves(&mut self, rt: &impl Abort, person: &mut Person) {
         if self.dice.below(2) == 0 {
-            self.is_closed(rt, person);
+            let code = codes().get(self.dice.below(4) as usize);
+            self.is_closed(rt, person, code.copied().unwrap_or(1001));
         } else {
             self.service.leave(person.number);
             self.has_left(person);
@@ -286,17 +364,19 @@ impl Scene {
         }
     }
 
-    /// A connection is closed with 1001, which does nothing to one that neither asks nor follows.
-    fn is_closed(&mut self, rt: &impl Abort, person: &mut Person) {
-        let code = Code::new(1001).expect(rt, "a code");
-        let is_closed = self.service.close(person.number, code).is_ok();
-        holds(rt, is_closed, "memory");
+    /// A connection is closed with this code, which does nothing to one that neither asks nor follows.
+    fn is_closed(&mut self, rt: &impl Abort, person: &mut Person, number: u16) {
+        let code = Code::new(number).expect(rt, "a code");
+        if self.service.close(person.number, code).is_err() {
+            self.is_refused(rt);
+            return;
+        }
         match person.course {
             Course::Asks => {
-                tell_close(rt, &mut person.due, 1001);
+                tell_close(rt, &mut person.due, number);
                 person.course = Course::Closed;
             }
-            Course::Follows => self.is_through(rt, person, 1001, "closed"),
+            Course::Follows => self.is_through(rt, person, number, "closed"),
             _ => {}
         }
     }
@@ -316,10 +396,22 @@ impl Scene {
 
     /// A connection goes.
     fn goes(&mut self, rt: &impl Abort, person: &mut Person) {
+        let who = self.service.owner(person.number);
         self.service.disconnect(person.number);
         self.has_left(person);
         person.course = Course::Away;
         person.due.clear();
         holds(rt, self.service.stage(person.number).is_none(), "gone");
+        holds(rt, self.waits_as_told(who, person), "waits");
+    }
+
+    /// Whether the boards of who went wait exactly if they do in the model.
+    fn waits_as_told(&self, who: Option<Owner>, person: &Person) -> bool {
+        match who {
+            Some(Owner { key: Some(key), .. }) => {
+                self.service.hall().waits(&key) == self.plain.waits(person.speaker.key)
+            }
+            _ => true,
+        }
     }
 }

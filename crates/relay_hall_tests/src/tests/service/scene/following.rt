@@ -1,10 +1,10 @@
 //! What those do and get that follow.
 
-use crate::tests::calling::frames::{PONG, tell};
 use crate::tests::hall::plain::{CAPACITY, Row};
+use crate::tests::hall::room::TWICE;
 use crate::tests::holds;
 use crate::tests::service::frames::{
-    MESSAGE, PAYLOAD, said, tell_close, tell_cut, tell_move, tell_over,
+    MESSAGE, PAYLOAD, PONG, said, tell, tell_close, tell_cut, tell_move, tell_over,
 };
 use crate::tests::service::people::{Course, Person, Saying};
 use crate::tests::service::scene::Scene;
@@ -35,7 +35,7 @@ impl Scene {
     }
 
     /// What a connection that follows has said is answered.
-    pub fn is_heard(&mut self, rt: &impl Abort, person: &mut Person) {
+    pub fn is_served(&mut self, rt: &impl Abort, person: &mut Person) {
         match person.saying.take() {
             Some(Saying::Ping) => tell(rt, &mut person.due, PONG, PAYLOAD),
             Some(Saying::Message) => self.is_passed_over(rt, person),
@@ -74,9 +74,7 @@ impl Scene {
 
     /// A connection is pushed the moves of its board. Nothing is pushed to others.
     pub fn is_pushed(&mut self, rt: &impl Abort, person: &mut Person) {
-        let pushed = self.service.push(person.number);
-        holds(rt, matches!(pushed, Ok(false)), "pushed");
-        if person.course != Course::Follows {
+        if !self.pushes(rt, person) || person.course != Course::Follows {
             return;
         }
         match self.plain.rows.get(person.board) {
@@ -86,6 +84,19 @@ impl Scene {
             }
             None => panic!(rt; "no board"),
         }
+    }
+
+    /// Whether all is pushed that is to be; otherwise the connection is lost.
+    fn pushes(&mut self, rt: &impl Abort, person: &mut Person) -> bool {
+        let mut pushed = self.service.push(person.number);
+        if pushed.is_err() {
+            if self.is_lost(rt, person) {
+                return false;
+            }
+            pushed = self.service.push(person.number);
+        }
+        holds(rt, pushed.expect(rt, TWICE) == false, "pushed");
+        true
     }
 
     /// A connection gets the moves of its board, and the end, if it has one: it was too slow, or the game has ended.
@@ -98,6 +109,8 @@ impl Scene {
         if due > CAPACITY {
             tell_cut(rt, &mut person.due);
             self.leaves_board(person, "cut");
+        } else if row.outcome.is_none() && due == 0 {
+            self.plain.seen.note("nothing yet");
         } else if let Some(outcome) = row.outcome {
             tell_over(rt, self.alloc, &mut person.due, outcome, self.is_ending);
             let word = if self.is_ending {
