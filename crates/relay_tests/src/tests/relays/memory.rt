@@ -9,7 +9,7 @@ use crate::tests::relays::table::Asked::{End, Follow, FollowFrom, Leave, Open, S
 use crate::tests::relays::table::Told::{
     Cut, Ended, Following, Left, Nothing, Opened, Over, Played, Took,
 };
-use crate::tests::relays::table::{Asked, Told, case_of, limits_of};
+use crate::tests::relays::table::{Asked, Case, Told, case_of, limits_of};
 use crate::tests::values::{ONE_PLY, START_0, START_518, TWO_PLIES};
 use c960_game::{Ending, Limits, Outcome, Refusal};
 use relay_core::{Relay, Reply, Step, Stepper};
@@ -40,32 +40,19 @@ fn new_relay<K: Kind>(rt: &impl Abort, alloc: Global, limits: Limits, refused: &
     }
 }
 
-/// What a step was answered.
-#[derive(Clone, Copy, PartialEq)]
-enum Said {
-    /// What was wanted.
-    Wanted,
-    /// That there was no memory.
-    Want,
-    /// Something else.
-    Else,
-}
-
-/// What a step is answered, if this is wanted.
-fn said_to(relay: &mut impl Stepper, step: &Step, wanted: &Reply) -> Said {
-    let reply = reply_to(relay, step);
-    if reply == *wanted {
-        Said::Wanted
-    } else if matches!(reply, Reply::Refused(Refusal::OutOfMemory)) {
-        Said::Want
-    } else {
-        Said::Else
-    }
+/// The case of these rows, made again if it was refused.
+fn case_again(rt: &impl Abort, alloc: Global, rows: &[(Asked, Told)]) -> Case {
+    again(rt, || case_of(rt, alloc, rows))
 }
 
 /// Whether a step may be refused for lack of memory.
 fn takes_memory(step: &Step) -> bool {
     matches!(step, Step::Open(..) | Step::Follow(..))
+}
+
+/// Whether a step was refused for lack of memory.
+fn wants_memory(reply: &Reply) -> bool {
+    matches!(reply, Reply::Refused(Refusal::OutOfMemory))
 }
 
 /// Asserts that a step gets this answer; one that was refused for lack of memory is made again. It is accepted then as if it had never been
@@ -77,17 +64,14 @@ fn assert_answer(
     reply: &Reply,
     refused: &mut Refused,
 ) {
-    let mut said = said_to(relay, step, reply);
-    if said == Said::Want {
+    let first = reply_to(relay, step);
+    if wants_memory(&first) && takes_memory(step) {
         refused.note();
-        claim(
-            rt,
-            takes_memory(step),
-            "no memory for a step that takes none",
-        );
-        said = said_to(relay, step, reply);
+        let second = reply_to(relay, step);
+        claim(rt, second == *reply, "made again");
+    } else {
+        claim(rt, first == *reply, "the answer");
     }
-    claim(rt, said == Said::Wanted, "the answer");
 }
 
 /// The replies of a run, made again if it was refused: then no step was made, as the replies show.
@@ -141,6 +125,13 @@ fn rows() -> &'static [(Asked, Told)] {
     &ROWS
 }
 
+/// Asserts that a relay gives these answers.
+fn assert_answers(rt: &impl Abort, relay: &mut impl Stepper, case: &Case, refused: &mut Refused) {
+    for i in 0..case.steps.len().min(case.replies.len()) {
+        assert_answer(rt, relay, &case.steps[i], &case.replies[i], refused);
+    }
+}
+
 /// Asserts that a new relay of the kind answers these rows. Returns how many of their calls were refused for lack of memory.
 fn refusals_in<K: Kind>(
     rt: &impl Abort,
@@ -149,11 +140,9 @@ fn refusals_in<K: Kind>(
     rows: &[(Asked, Told)],
 ) -> u32 {
     let mut refused = Refused { count: 0 };
-    let case = again(rt, || case_of(rt, alloc, rows));
+    let case = case_again(rt, alloc, rows);
     let mut relay: K = new_relay(rt, alloc, limits_of(rt, limits), &mut refused);
-    for (step, reply) in case.steps.iter().zip(&case.replies) {
-        assert_answer(rt, &mut relay, step, reply, &mut refused);
-    }
+    assert_answers(rt, &mut relay, &case, &mut refused);
     refused.count
 }
 
@@ -202,11 +191,6 @@ fn steps_of_a_run() -> &'static [(Asked, Told)] {
     &RUN
 }
 
-/// Whether a step was refused for lack of memory.
-fn wants_memory(reply: &Reply) -> bool {
-    matches!(reply, Reply::Refused(Refusal::OutOfMemory))
-}
-
 /// Asserts that these are the replies to that run. A step that was refused for lack of memory is noted, and its reply is then wanted of the
 /// next one.
 fn assert_replies(rt: &impl Abort, given: &[Reply], wanted: &[Reply], refused: &mut Refused) {
@@ -226,7 +210,7 @@ fn assert_replies(rt: &impl Abort, given: &[Reply], wanted: &[Reply], refused: &
 /// Asserts that a new relay of the kind answers a run. Returns how many calls were refused for lack of memory.
 fn refusals_of_a_run<K: Kind>(rt: &impl Abort, alloc: Global) -> u32 {
     let mut refused = Refused { count: 0 };
-    let case = again(rt, || case_of(rt, alloc, steps_of_a_run()));
+    let case = case_again(rt, alloc, steps_of_a_run());
     let limits = limits_of(rt, (1, 1, 1, 1024));
     let mut relay: K = new_relay(rt, alloc, limits, &mut refused);
     let given = run(rt, &mut relay, case.steps.as_slice(), &mut refused);
