@@ -7,7 +7,9 @@ use crate::failure::Device;
 use crate::serving::fault::ServeFault;
 use crate::serving::relay::relay_of;
 use crate::serving::watching::{Loops, Watch};
+use chained_lines::StableFile;
 use main_port::{MainPort, ServeEnd, Settings};
+use relay_durable::DurableService;
 use relay_hall::Hall;
 use relay960_words::{Connections, Service};
 use server_loop::Log;
@@ -50,14 +52,130 @@ where
     let relay = relay_of(rt, alloc, service)?;
     let watch = open_watch(rt, alloc, service)?;
     let port = open_port(rt, alloc, service)?;
-    let watching = match &watch {
+    serve_port(rt, alloc, service, relay, watch, port)
+}
+
+/// Serves on these ports.
+///
+/// # Errors
+///
+/// As `serve_run`.
+fn serve_port<'a, R>(
+    rt: &R,
+    alloc: Global,
+    service: &Service<'a>,
+    relay: DurableService<StableFile>,
+    watch: Option<Watch>,
+    port: MainPort,
+) -> Result<ServeEnd, ServeFault<'a>>
+where
+    R: Input<Reader = StdinLock<'static>>
+        + Print
+        + Eprint
+        + Threads
+        + Wait
+        + Clock
+        + Clone
+        + Send
+        + Drop
+        + 'static,
+    requires most { port.most ≡ most_of service.now.connections }
+    requires ends { port.until_input_ends ≡ service.now.until_input_ends }
+    ensures { IfOk result (MeetsWith service.now.connections service.now.until_input_ends) }
+{
+    let log = start_log(rt, alloc, service, &watch)?;
+    serve_watched(rt, alloc, service, relay, watch, port, log)
+}
+
+/// Starts the loops of the watch port, and serves.
+///
+/// # Errors
+///
+/// As `serve_run`.
+fn serve_watched<'a, R>(
+    rt: &R,
+    alloc: Global,
+    service: &Service<'a>,
+    relay: DurableService<StableFile>,
+    watch: Option<Watch>,
+    port: MainPort,
+    log: Log,
+) -> Result<ServeEnd, ServeFault<'a>>
+where
+    R: Input<Reader = StdinLock<'static>>
+        + Print
+        + Eprint
+        + Threads
+        + Wait
+        + Clock
+        + Clone
+        + Send
+        + Drop
+        + 'static,
+    requires most { port.most ≡ most_of service.now.connections }
+    requires ends { port.until_input_ends ≡ service.now.until_input_ends }
+    ensures { IfOk result (MeetsWith service.now.connections service.now.until_input_ends) }
+{
+    match start_loops(rt, alloc, watch, relay.hall()) {
+        Ok(loops) => serve_loops(rt, service, relay, port, loops, log),
+        Err(fault) => {
+            log.end(rt);
+            Err(fault)
+        }
+    }
+}
+
+/// Starts the log, which also says how many spectators there are.
+///
+/// # Errors
+///
+/// There was no memory.
+fn start_log<R>(
+    rt: &R,
+    alloc: Global,
+    service: &Service,
+    watch: &Option<Watch>,
+) -> Result<Log, ServeFault<'static>>
+where
+    R: Threads + Wait + Clock + Clone + Send + Drop + Eprint + 'static,
+{
+    let watching = match watch {
         Some(watch) => Some(watch.count()?),
         None => None,
     };
-    let Ok(log) = Log::start(rt, alloc, service.log, watching) else {
-        return Err(ServeFault::OutOfMemory);
-    };
-    let loops = start_loops(rt, alloc, watch, relay.hall())?;
+    match Log::start(rt, alloc, service.log, watching) {
+        Ok(log) => Ok(log),
+        Err(_) => Err(ServeFault::OutOfMemory),
+    }
+}
+
+/// Announces that all is ready, and serves until the end.
+///
+/// # Errors
+///
+/// As `serve_run`.
+fn serve_loops<'a, R>(
+    rt: &R,
+    service: &Service<'a>,
+    relay: DurableService<StableFile>,
+    port: MainPort,
+    loops: Option<Loops>,
+    log: Log,
+) -> Result<ServeEnd, ServeFault<'a>>
+where
+    R: Input<Reader = StdinLock<'static>>
+        + Print
+        + Threads
+        + Wait
+        + Clock
+        + Clone
+        + Send
+        + Drop
+        + 'static,
+    requires most { port.most ≡ most_of service.now.connections }
+    requires ends { port.until_input_ends ≡ service.now.until_input_ends }
+    ensures { IfOk result (MeetsWith service.now.connections service.now.until_input_ends) }
+{
     if let Err(reason) = announce(rt, service) {
         log.end(rt);
         end_loops(rt, loops);

@@ -67,10 +67,7 @@ impl Watch {
 
     /// How many spectators there are.
     pub(super) fn count(&self) -> Result<Arc<AtomicU32, Global>, ServeFault<'static>> {
-        match self.port.count() {
-            Ok(count) => Ok(count),
-            Err(_) => Err(ServeFault::OutOfMemory),
-        }
+        Ok(self.port.count()?)
     }
 
     /// Starts the loops, each on a thread of its own. The boards that there are, those of a journal, are told them before: whoever watched
