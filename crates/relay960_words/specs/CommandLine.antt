@@ -22,13 +22,13 @@ use Rattle.relay960_words.specs.declared.order.WatchPort.{WatchPort}
 
 -- ---- the commands
 
+-- a text, which is required
+abbrev pub required_rule : Text → Rule
+required_rule name = record (new_rule name) { action = Some Set; required = true }
+
 -- a start's number, which is required
 abbrev pub number_rule : Rule
-number_rule = record (new_rule (codes "N")) { action = Some Set; parser = Some (Signed (pos 0) (pos 65535)); required = true }
-
--- the text of a position, which is required
-abbrev pub fen_rule : Rule
-fen_rule = record (new_rule (codes "FEN")) { action = Some Set; required = true }
+number_rule = record (required_rule (codes "N")) { parser = Some (Signed (pos 0) (pos 65535)) }
 
 -- `--name NUMBER`, from least to most, with the number that it has by default
 abbrev pub option_rule : Text → ℕ → ℕ → Text → Rule
@@ -74,7 +74,7 @@ abbrev pub start_command : App
 start_command = with_rule (new_app (codes "start")) number_rule
 
 abbrev pub moves_command : App
-moves_command = with_rule (new_app (codes "moves")) fen_rule
+moves_command = with_rule (new_app (codes "moves")) (required_rule (codes "FEN"))
 
 abbrev pub play_command : App
 play_command = with_rule (new_app (codes "play")) number_rule
@@ -85,12 +85,8 @@ script_command = with_limits (new_app (codes "script"))
 abbrev pub serve_command : App
 serve_command = with_limits (with_service (new_app (codes "serve")))
 
--- the path of a journal, which is required
-abbrev pub file_rule : Rule
-file_rule = record (new_rule (codes "FILE")) { action = Some Set; required = true }
-
 abbrev pub journal_command : App
-journal_command = with_rule (new_app (codes "journal")) file_rule
+journal_command = with_rule (new_app (codes "journal")) (required_rule (codes "FILE"))
 
 -- the program's own name, with a version
 abbrev pub versioned : App

@@ -1,4 +1,4 @@
-//! The options of `script` and `serve`.
+//! The arguments of commands, and the options of `script` and `serve`.
 
 ghost use Rattle.std.specs.Prelude.{◌≡◌, false, IfOk, pos};
 ghost use Rattle.clap.specs.Words.{app_of, rule_of};
@@ -9,6 +9,25 @@ use c960_game::{MOST_BOARDS, MOST_CAPACITY, MOST_FOLLOWERS, MOST_PLIES};
 use clap::builder::ValueParser;
 use clap::{Arg, ArgAction, Command, value_parser};
 use std::alloc::{AllocError, Global};
+
+/// The argument `N`, a start's number, which is required.
+pub(crate) fn start_number<'a>(alloc: Global, help: &'static str) -> Arg<'a>
+    ensures rule { rule_of result ≡ line.number_rule }
+    ensures local { result.global ≡ false }
+{
+    required_text(alloc, "N", help).value_parser(value_parser!(u16))
+}
+
+/// An argument of this name, any text, which is required.
+pub(crate) fn required_text<'a>(alloc: Global, name: &'static str, help: &'static str) -> Arg<'a>
+    ensures rule { rule_of result ≡ line.required_rule name.now }
+    ensures local { result.global ≡ false }
+{
+    Arg::new(alloc, name)
+        .help(help)
+        .required(true)
+        .action(ArgAction::Set)
+}
 
 /// The parser of a number from `least` to `most`.
 fn number_parser<'a>(least: u32, most: u32) -> ValueParser<'a>

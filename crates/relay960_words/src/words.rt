@@ -1,62 +1,60 @@
 //! The command-line arguments, read by `clap`.
 
-ghost use Rattle.std.specs.Prelude.{◌≡◌, IfErr, IfOk, List, MatchResult, ℕ, Ok, Some, map};
+ghost use Rattle.std.specs.Prelude.{◌≡◌, false, IfErr, IfOk, List, MatchResult, ℕ, Ok, Some, map};
 ghost use Rattle.std.specs.Net.Grammar.{IsSocketText};
-ghost use Rattle.clap.specs.Words.{app_of, first_value, found_of, kind_of, one_text, subcommand_of, subcommand_rows_of};
+ghost use Rattle.clap.specs.Words.{app_of, first_value, found_of, kind_of, new_app, one_text, rule_of, subcommand_of, subcommand_rows_of, with_rule};
 ghost use Rattle.clap.specs.Walk.{rows_of};
 ghost use Rattle.relay960_words.specs.CommandLine as line;
 ghost use Rattle.relay960_words.specs.Statuses.{IsFault};
 
 use crate::fault::status_of_error;
-use crate::options::{with_limits, with_service};
+use crate::options::{required_text, start_number, with_limits, with_service};
 use crate::order::{Connections, Job, Order, Service, WatchPort};
 use crate::status::Status;
 use crate::version::VERSION;
 use c960_game::Limits;
 use clap::error::ErrorKind;
 use clap::parser::ValueSource;
-use clap::{Arg, ArgAction, ArgMatches, Command, Error, value_parser};
+use clap::{Arg, ArgMatches, Command, Error};
 use std::alloc::{AllocError, Global};
 use std::convert::AsStr;
 use std::net::SocketAddr;
 use std::str::FromStr;
 
+/// A command with one argument.
+fn command_of<'a>(
+    alloc: Global,
+    name: &'static str,
+    about: &'static str,
+    argument: Arg<'a>,
+) -> Result<Command<'a>, AllocError>
+    ensures { argument.entry.global ≡ false → IfOk result (λ c. app_of c ≡ with_rule (new_app name.now) (rule_of argument.entry)) }
+{
+    Command::new(alloc, name).about(about).arg(argument)
+}
+
 fn start_command<'a>(alloc: Global) -> Result<Command<'a>, AllocError>
     ensures { IfOk result (λ c. app_of c ≡ line.start_command) }
 {
-    let number = Arg::new(alloc, "N")
-        .help("Scharnagl's number of the position, 0 to 959")
-        .required(true)
-        .action(ArgAction::Set)
-        .value_parser(value_parser!(u16));
-    Command::new(alloc, "start")
-        .about("Print the starting position N in Shredder-FEN")
-        .arg(number)
+    let about = "Print the starting position N in Shredder-FEN";
+    let number = "Scharnagl's number of the position, 0 to 959";
+    command_of(alloc, "start", about, start_number(alloc, number))
 }
 
 fn moves_command<'a>(alloc: Global) -> Result<Command<'a>, AllocError>
     ensures { IfOk result (λ c. app_of c ≡ line.moves_command) }
 {
-    let fen = Arg::new(alloc, "FEN")
-        .help("The position in Shredder-FEN, as one word")
-        .required(true)
-        .action(ArgAction::Set);
-    Command::new(alloc, "moves")
-        .about("Print the legal moves and the state of the position FEN")
-        .arg(fen)
+    let about = "Print the legal moves and the state of the position FEN";
+    let fen = "The position in Shredder-FEN, as one word";
+    command_of(alloc, "moves", about, required_text(alloc, "FEN", fen))
 }
 
 fn play_command<'a>(alloc: Global) -> Result<Command<'a>, AllocError>
     ensures { IfOk result (λ c. app_of c ≡ line.play_command) }
 {
-    let number = Arg::new(alloc, "N")
-        .help("Scharnagl's number of the start, 0 to 959")
-        .required(true)
-        .action(ArgAction::Set)
-        .value_parser(value_parser!(u16));
-    Command::new(alloc, "play")
-        .about("Play the game of start N: read a move a line, print the position after it")
-        .arg(number)
+    let about = "Play the game of start N: read a move a line, print the position after it";
+    let number = "Scharnagl's number of the start, 0 to 959";
+    command_of(alloc, "play", about, start_number(alloc, number))
 }
 
 fn script_command<'a>(alloc: Global) -> Result<Command<'a>, AllocError>
@@ -80,13 +78,9 @@ fn serve_command<'a>(alloc: Global) -> Result<Command<'a>, AllocError>
 fn journal_command<'a>(alloc: Global) -> Result<Command<'a>, AllocError>
     ensures { IfOk result (λ c. app_of c ≡ line.journal_command) }
 {
-    let file = Arg::new(alloc, "FILE")
-        .help("A journal of serve; it may be in use")
-        .required(true)
-        .action(ArgAction::Set);
-    Command::new(alloc, "journal")
-        .about("Check a journal: print its boards, and how it ends")
-        .arg(file)
+    let about = "Check a journal: print its boards, and how it ends";
+    let file = "A journal of serve; it may be in use";
+    command_of(alloc, "journal", about, required_text(alloc, "FILE", file))
 }
 
 fn versioned_command<'a>(alloc: Global) -> Command<'a>
