@@ -60,8 +60,8 @@ TESTS = {
         "tests::messages::ways::behind_want_of_memory_a_decoder_goes_on",
         "tests::messages::ways::behind_want_of_memory_for_members_a_decoder_goes_on",
     ],
-    "relay_hall_tests": ["tests::service::memory::whoever_is_refused_memory_asks_again"],
-    "relay_server_tests": [
+    "server_tests": [
+        "tests::service::memory::whoever_is_refused_memory_asks_again",
         "tests::sessions::refusals::a_name_that_stands_takes_no_memory",
         "tests::sessions::refusals::a_refusal_ends_the_boards_and_leaves_no_seat_taken",
     ],

@@ -1,5 +1,5 @@
 //! The plain server: a thread for each connection, all boards behind one lock, `tungstenite`'s own handshake and frames. No program runs
-//! it. It stands as what the server of the program is compared with: `relay_server_tests` takes the same sessions through both. It is
+//! it. It stands as what the server of the program is compared with: `server_tests` takes the same sessions through both. It is
 //! written to be read against the rules of a session, and has no keys, no grace, no log and no bound on how long a peer may take.
 #![tactic(auto)]
 

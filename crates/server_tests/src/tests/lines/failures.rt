@@ -1,0 +1,125 @@
+//! A storage that fails, or has no more room.
+
+use super::files::{ENDS, ample, file, front, whole_lines, written};
+use crate::tests::claims::{claim, claim_at};
+use crate::tests::lines::memory::Memory;
+use chained_lines::{Journal, NO_SEAL, NoteError, sound_part};
+use std::process::Abort;
+
+/// For each number of calls that are answered, two for a write: how many bytes were written, how many of them synced, and how many commits
+/// were done.
+const AT_CALLS: [(usize, usize, usize); 7] = [
+    (0, 0, 0),
+    (21, 0, 0),
+    (21, 21, 1),
+    (68, 21, 1),
+    (68, 68, 2),
+    (90, 68, 2),
+    (90, 90, 3),
+];
+
+/// How many lines so many commits have.
+const COMMITTED: [usize; 4] = [0, 1, 3, 4];
+
+/// How many lines so many commits have, or more than there are.
+fn committed(commits: usize) -> usize {
+    match COMMITTED.get(commits) {
+        Some(lines) => *lines,
+        None => usize::MAX,
+    }
+}
+
+/// Whatever a crash leaves of the storage, at least the committed lines are read.
+fn claim_kept(rt: &impl Abort, storage: &Memory, done: usize, at: usize) {
+    for left in storage.synced..=storage.bytes.len() {
+        let lines = sound_part(front(&storage.bytes, left)).lines;
+        claim_at(rt, committed(done) <= lines, "kept at", at);
+    }
+}
+
+// A storage that fails at a call is written to no more, and what was committed before is kept.
+#[test]
+fn each_call_may_fail(rt: HostRuntime) {
+    let alloc = rt.alloc();
+    let file = file(alloc);
+    for (calls, (bytes, synced, done)) in AT_CALLS.into_iter().enumerate() {
+        let mut storage = ample(alloc, usize::MAX);
+        storage.calls = calls;
+        let (storage, commits) = written(alloc, storage);
+        claim_at(
+            &rt,
+            storage.bytes.as_slice() == front(&file, bytes),
+            "bytes at",
+            calls,
+        );
+        claim_at(
+            &rt,
+            storage.synced == synced && commits == done,
+            "commits at",
+            calls,
+        );
+        claim_kept(&rt, &storage, commits, calls);
+    }
+}
+
+// So it is where it takes seven bytes at once.
+#[test]
+fn each_call_for_a_piece_may_fail(rt: HostRuntime) {
+    let alloc = rt.alloc();
+    let file = file(alloc);
+    for calls in 0..18 {
+        let mut storage = ample(alloc, 7);
+        storage.calls = calls;
+        let (storage, done) = written(alloc, storage);
+        claim_at(&rt, file.starts_with(&storage.bytes), "front at", calls);
+        claim_kept(&rt, &storage, done, calls);
+    }
+}
+
+// A storage without room takes a front of the file, of which the whole lines are read.
+#[test]
+fn room_may_end_at_each_byte(rt: HostRuntime) {
+    let alloc = rt.alloc();
+    let file = file(alloc);
+    for room in 0..=ENDS[3] {
+        let mut storage = ample(alloc, 7);
+        storage.room = room;
+        let (storage, done) = written(alloc, storage);
+        claim_at(
+            &rt,
+            storage.bytes.as_slice() == front(&file, room),
+            "front in a room of",
+            room,
+        );
+        claim_at(
+            &rt,
+            sound_part(&storage.bytes).lines == whole_lines(room),
+            "lines in a room of",
+            room,
+        );
+        claim_kept(&rt, &storage, done, room);
+    }
+}
+
+// A body with a line feed is not noted, and the journal goes on as if it had not been.
+#[test]
+fn a_line_feed_is_not_noted(rt: HostRuntime) {
+    let alloc = rt.alloc();
+    let mut journal = Journal::behind(alloc, ample(alloc, usize::MAX), NO_SEAL);
+    claim(
+        &rt,
+        journal.note(b"o\nne") == Err(NoteError::HasLineFeed),
+        "a line feed",
+    );
+    claim(
+        &rt,
+        journal.note(b"one").is_ok() && journal.commit().is_ok(),
+        "the next",
+    );
+    let storage = journal.into_storage();
+    claim(
+        &rt,
+        storage.bytes.as_slice() == front(&file(alloc), ENDS[0]),
+        "the first line",
+    );
+}
