@@ -40,10 +40,8 @@ impl BoardFollowers {
         let Some(followers) = self.each.get_mut(at) else {
             return Err(AllocError);
         };
-        match followers.insert(number) {
-            Ok(_) => Ok(()),
-            Err(_) => Err(AllocError),
-        }
+        followers.insert(number)?;
+        Ok(())
     }
 
     /// Removes a connection that follows this board no more.

@@ -16,7 +16,7 @@ use relay_durable::DurableService;
 use server_loop::{LISTENER, Listener, Log, LoopClock, LoopWaker, Poller, watch_input};
 use std::alloc::Global;
 use std::io;
-use std::io::{ErrorKind, StdinLock};
+use std::io::StdinLock;
 use std::marker::Model;
 use std::net::{Net, TcpListener};
 use std::sync::atomic::{AtomicBool, Ordering};
@@ -48,14 +48,6 @@ impl Model for MainPort {
     ghost view = { λ p. p.settings };
 }
 
-/// What was made, or the error that there was no memory for it.
-fn or_no_memory<T: Drop, E: Drop>(made: Result<T, E>) -> io::Result<T> {
-    match made {
-        Ok(made) => Ok(made),
-        Err(_) => Err(io::Error::from(ErrorKind::OutOfMemory)),
-    }
-}
-
 impl MainPort {
     /// The main port at this listener, which is made non-blocking. All that it takes to serve is taken here.
     ///
@@ -74,13 +66,13 @@ impl MainPort {
         Ok(MainPort {
             alloc,
             settings: *settings,
-            room: or_no_memory(Room::new(alloc, &settings.limits))?,
+            room: Room::new(alloc, &settings.limits)?,
             listener: Listener::new(listener, poller.registry(), LISTENER)?,
             registry: poller.registry().try_clone()?,
-            waker: or_no_memory(Arc::try_clone(poller.waker()))?,
+            waker: Arc::try_clone(poller.waker())?,
             poller,
             clock: LoopClock::begin(net)?,
-            has_input_ended: or_no_memory(Arc::new(alloc, AtomicBool::new(false)))?,
+            has_input_ended: Arc::new(alloc, AtomicBool::new(false))?,
         })
     }
 

@@ -57,10 +57,8 @@ impl Lines {
     /// Adds a line, or counts it if there is no room. What is reported in any case does not want for room. Returns whether it was added.
     fn add(&mut self, line: LogLine) -> bool {
         let has_room = self.kept.len() < MOST_LINES || !line.is_of_log();
-        let is_added = has_room && self.kept.reserve(1).is_ok();
-        if is_added {
-            self.kept.push_reserved(line);
-        } else {
+        let is_added = has_room && self.kept.push(line).is_ok();
+        if !is_added {
             self.left_out = self.left_out.saturating_add(1);
         }
         is_added
@@ -136,9 +134,7 @@ impl Log {
                 watching,
             },
         };
-        let Ok(shared) = Arc::new(alloc, shared) else {
-            return Err(AllocError);
-        };
+        let shared = Arc::new(alloc, shared)?;
         let thread = spawn(rt, &shared);
         Ok(Log { shared, thread })
     }

@@ -4,7 +4,6 @@ use crate::waker::LoopWaker;
 use mio::{Events, Poll, Registry, Token, Waker};
 use std::alloc::Global;
 use std::io;
-use std::io::ErrorKind;
 use std::net::Net;
 use std::sync::Arc;
 use std::time::Duration;
@@ -35,16 +34,10 @@ impl Poller {
     pub fn new<N: Net>(net: &N, alloc: Global) -> io::Result<Poller> {
         let poll = Poll::new(net)?;
         let waker = Waker::new(poll.registry(), WAKER)?;
-        let Ok(events) = Events::with_capacity(alloc, MOST_EVENTS) else {
-            return Err(io::Error::from(ErrorKind::OutOfMemory));
-        };
-        let Ok(waker) = Arc::new(alloc, LoopWaker::new(waker)) else {
-            return Err(io::Error::from(ErrorKind::OutOfMemory));
-        };
         Ok(Poller {
             poll,
-            events,
-            waker,
+            events: Events::with_capacity(alloc, MOST_EVENTS)?,
+            waker: Arc::new(alloc, LoopWaker::new(waker))?,
         })
     }
 
