@@ -86,7 +86,9 @@ impl Listener {
     ///
     /// As the system's own calls.
     pub fn new(listener: TcpListener, registry: &Registry, token: Token) -> io::Result<Listener> {
-        opens(&listener, registry, token)?;
+        listener.set_nonblocking(true)?;
+        let descriptor = listener.as_raw_fd();
+        registry.register(&mut SourceFd(&descriptor), token, Interest::READABLE)?;
         let reserve = Reserve::new(&listener);
         Ok(Listener { listener, reserve })
     }
@@ -95,13 +97,6 @@ impl Listener {
     pub fn accept(&mut self) -> Arrival {
         self.reserve.accept(&self.listener)
     }
-}
-
-/// Makes a listener non-blocking, and has newcomers reported.
-fn opens(listener: &TcpListener, registry: &Registry, token: Token) -> io::Result<()> {
-    listener.set_nonblocking(true)?;
-    let descriptor = listener.as_raw_fd();
-    registry.register(&mut SourceFd(&descriptor), token, Interest::READABLE)
 }
 
 /// Whether the error means that nobody is waiting to be accepted.

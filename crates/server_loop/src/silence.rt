@@ -40,11 +40,8 @@ impl Silence {
     {
         self.heard_at = now;
         self.pings = 0;
-        self.midway_since = match self.midway_since {
-            Some(since) if is_midway => Some(since),
-            _ if is_midway => Some(now),
-            _ => None,
-        };
+        let since = self.midway_since.unwrap_or(now);
+        self.is_heard_again(since, is_midway);
     }
 
     /// The rest of a message is not waited for: it has come, and what follows it begins now. Or the connection is not heard for a while.
