@@ -7,8 +7,7 @@ use crate::acceptor::Acceptor;
 use crate::clients::Clients;
 use crate::tally::Tally;
 use crate::watchers::Watchers;
-use mio::Events;
-use server_loop::{LoopWaker, MOST_EVENTS, Poller};
+use server_loop::{MOST_EVENTS, Poller};
 use std::io;
 use std::sync::Wait;
 use std::thread::sleep;
@@ -36,8 +35,6 @@ const MOST_LEAVING_SECONDS: u64 = 4;
 /// the time and accepts newcomers.
 #[derive(Drop)]
 pub(crate) struct EventLoop<'a, R, W> {
-    rt: &'a R,
-    waker: &'a LoopWaker,
     clients: Clients<'a, R, W>,
     acceptor: Acceptor<'a>,
     /// Whether boards are kept in a journal: without one serving does not fail.
@@ -58,18 +55,11 @@ pub(crate) struct EventLoop<'a, R, W> {
 
 impl<'a, R: Wait + Clock, W: Watchers> EventLoop<'a, R, W> {
     /// The loop that serves these connections, and whoever comes in here.
-    pub(crate) fn new(
-        rt: &'a R,
-        waker: &'a LoopWaker,
-        clients: Clients<'a, R, W>,
-        acceptor: Acceptor<'a>,
-    ) -> EventLoop<'a, R, W>
+    pub(crate) fn new(clients: Clients<'a, R, W>, acceptor: Acceptor<'a>) -> EventLoop<'a, R, W>
         ensures acceptor { result.acceptor ≡ acceptor.entry }
         ensures journal { result.has_journal ≡ is_some clients.entry.service.scribe }
     {
         EventLoop {
-            rt,
-            waker,
             has_journal: clients.has_journal(),
             clients,
             acceptor,
@@ -88,12 +78,12 @@ impl<'a, R: Wait + Clock, W: Watchers> EventLoop<'a, R, W> {
         ensures all { self.entry.acceptor.may_end ≡ false → IfOk result.0 (λ tally. is_full tally ≡ true) }
         ensures failed { IfErr result.0 (λ error. self.entry.has_journal ≡ true) }
     {
-        let rt = self.rt;
+        let rt = self.clients.rt;
         for _ in rt.forever() {
             if poller.wait(self.patience()).is_err() {
                 let _ = sleep(rt, Duration::from_millis(PAUSE_MILLIS));
             }
-            if self.take(poller.events()) {
+            if self.take(poller) {
                 return self.end();
             }
         }
@@ -170,7 +160,7 @@ impl<'a, R: Wait + Clock, W: Watchers> EventLoop<'a, R, W> {
 
     /// Handles what the system reported, and what is due. Returns whether it was the last turn. None is while newcomers come in, unless the
     /// journal has failed: nobody can be told anything any more.
-    fn take(&mut self, events: &Events) -> bool
+    fn take(&mut self, poller: &Poller) -> bool
         ensures same { IsOfTheSame self.old.acceptor self.new.acceptor }
         ensures last { result ≡ true → has_failed self.new.has_journal self.new.clients.journal_failure ≡ false
             → self.new.acceptor.is_open ≡ false }
@@ -179,10 +169,10 @@ impl<'a, R: Wait + Clock, W: Watchers> EventLoop<'a, R, W> {
     {
         let asked = self.clients.now();
         // This comes before looking: whoever wakes the loop from now on wakes it again.
-        self.waker.reset();
+        poller.waker().reset();
         self.clients.look_at_clock();
         // What the system reports now may have come right after it was asked the time before, or earlier if it left something out then.
-        let report = self.clients.note(events, self.reported_by);
+        let report = self.clients.note(poller.events(), self.reported_by);
         if report.has_newcomers {
             self.acceptor.looks();
         }
@@ -210,7 +200,7 @@ impl<'a, R: Wait + Clock, W: Watchers> EventLoop<'a, R, W> {
     fn has_failed(&self) -> bool
         ensures { result ≡ has_failed self.now.has_journal self.now.clients.journal_failure }
     {
-        self.has_journal && self.clients.has_journal_failed()
+        self.has_journal && self.clients.journal_failure.is_some()
     }
 
     // ---- The end.
@@ -221,7 +211,8 @@ impl<'a, R: Wait + Clock, W: Watchers> EventLoop<'a, R, W> {
         ensures over { result ≡ true → self.new.acceptor.is_open ≡ false }
         ensures journal { self.new.has_journal ≡ self.old.has_journal }
     {
-        if !self.acceptor.closes_if_over(self.rt) {
+        let rt = self.clients.rt;
+        if !self.acceptor.closes_if_over(rt) {
             return false;
         }
         let is_ending = self.acceptor.is_ending();

@@ -13,7 +13,7 @@ use crate::watchers::Watchers;
 use chained_lines::StableFile;
 use mio::Registry;
 use relay_durable::DurableService;
-use server_loop::{LISTENER, Listener, Log, LoopClock, LoopWaker, Poller, watch_input};
+use server_loop::{LISTENER, Listener, Log, LoopClock, Poller, watch_input};
 use std::alloc::Global;
 use std::io;
 use std::io::StdinLock;
@@ -33,7 +33,6 @@ pub struct MainPort {
     poller: Poller,
     /// The same, for whoever registers connections.
     registry: Registry,
-    waker: Arc<LoopWaker, Global>,
     listener: Listener,
     clock: LoopClock,
     /// Whether standard input has ended.
@@ -69,7 +68,6 @@ impl MainPort {
             room: Room::new(alloc, &settings.limits)?,
             listener: Listener::new(listener, poller.registry(), LISTENER)?,
             registry: poller.registry().try_clone()?,
-            waker: Arc::try_clone(poller.waker())?,
             poller,
             clock: LoopClock::begin(net)?,
             has_input_ended: Arc::new(alloc, AtomicBool::new(false))?,
@@ -147,19 +145,20 @@ impl MainPort {
             room,
             mut poller,
             registry,
-            waker,
             listener,
             clock,
             has_input_ended,
         } = self;
         // If nobody can watch the input, serving ends at once.
-        if settings.until_input_ends && watch_input(rt, &has_input_ended, &waker).is_none() {
+        if settings.until_input_ends
+            && watch_input(rt, &has_input_ended, poller.waker()).is_none()
+        {
             has_input_ended.store(true, Ordering::SeqCst);
         }
         let clients = Clients::new(
             rt, alloc, service, &settings, room, registry, clock, watchers, log,
         );
         let acceptor = Acceptor::new(listener, &settings, &has_input_ended, log);
-        EventLoop::new(rt, &waker, clients, acceptor).run(&mut poller)
+        EventLoop::new(clients, acceptor).run(&mut poller)
     }
 }

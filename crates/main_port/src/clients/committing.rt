@@ -52,13 +52,6 @@ impl<'a, R: Wait + Clock, W: Watchers> Clients<'a, R, W> {
         self.service.has_journal()
     }
 
-    /// Whether the journal has failed.
-    pub(crate) fn has_journal_failed(&self) -> bool
-        ensures { result ≡ is_some self.now.journal_failure }
-    {
-        self.journal_failure.is_some()
-    }
-
     /// How many connections are answered before the answers of all of them are sent.
     pub(super) fn most_unsent(&self) -> usize {
         if self.has_journal() {
