@@ -77,11 +77,8 @@ impl<'a> Acceptor<'a> {
 
     /// In how many milliseconds newcomers are accepted that may be waiting, if any may come.
     pub(crate) fn accepts_in(&self, now: u64) -> Option<u64> {
-        if self.has_newcomers && self.listener.is_some() && !self.tally.is_full() {
-            Some(self.opens_at.saturating_sub(now))
-        } else {
-            None
-        }
+        let may_come = self.has_newcomers && self.listener.is_some() && !self.tally.is_full();
+        may_come.then_some(self.opens_at.saturating_sub(now))
     }
 
     /// Once all is heard that had come by this millisecond, so is all that newcomers had sent before they were accepted.
@@ -109,19 +106,12 @@ impl<'a> Acceptor<'a> {
             if self.accepts_in(clients.now()) != Some(0) {
                 return;
             }
-            self.accept_one(clients);
+            let arrival = self.next();
+            self.lets_in(arrival, clients);
             if clients.is_late(until) {
                 return;
             }
         }
-    }
-
-    /// Accepts the next newcomer.
-    fn accept_one<R: Wait + Clock, W: Watchers>(&mut self, clients: &mut Clients<'_, R, W>)
-        ensures { OnlyMeets self.old self.new }
-    {
-        let arrival = self.next();
-        self.lets_in(arrival, clients);
     }
 
     /// Lets in whoever came. Each that came was met, also one that was turned away or could not be accepted: another try comes later.
@@ -221,15 +211,9 @@ impl<'a> Acceptor<'a> {
         ensures { self.new ≡ record self.old { is_open = false } }
     {
         self.listener = None;
-        if self.tally.is_full() {
-            self.says_so(rt);
-        }
-    }
-
-    /// Says that the last connection has come that may.
-    fn says_so<R: Wait>(&self, rt: &R) {
-        if let Some(most) = self.tally.most() {
-            self.log.note(rt, LogLine::TheLast(most));
+        match self.tally.most() {
+            Some(most) if self.tally.is_full() => self.log.note(rt, LogLine::TheLast(most)),
+            _ => {}
         }
     }
 
