@@ -46,18 +46,14 @@ impl BoardFollowers {
 
     /// Removes a connection that follows this board no more.
     pub(crate) fn remove(&mut self, at: usize, number: u64) {
-        let Some(followers) = self.each.get_mut(at) else {
-            return;
-        };
-        let _ = followers.swap_remove(&number);
+        if let Some(followers) = self.each.get_mut(at) {
+            let _ = followers.swap_remove(&number);
+        }
     }
 
     /// How many connections follow this board.
     pub(crate) fn count(&self, at: usize) -> usize {
-        match self.each.get(at) {
-            Some(followers) => followers.len(),
-            None => 0,
-        }
+        self.each.get(at).map_or(0, |followers| followers.len())
     }
 
     /// Whether as many connections follow this board as may.

@@ -303,10 +303,7 @@ impl<'a, R: Wait + Clock, W: Watchers> Clients<'a, R, W> {
 
     /// Everything that connections had sent by this millisecond has been heard, if everything by the millisecond `asked` was reported.
     pub(crate) fn heard_by(&self, asked: u64) -> u64 {
-        match self.queue.since() {
-            Some(since) => since.min(asked),
-            None => asked,
-        }
+        self.queue.since().map_or(asked, |since| since.min(asked))
     }
 
     /// Gives those a turn that are due one, owners before followers before others, as long as there is time for each: the rest have theirs

@@ -174,10 +174,8 @@ impl<'a, R: Wait + Clock, W: Watchers> Clients<'a, R, W> {
             return 0;
         };
         for at in 0..hall.len() {
-            if let Some(shown) = hall.board(at) {
-                if shown.belongs_to(&key) {
-                    return at;
-                }
+            if hall.board(at).is_some_and(|shown| shown.belongs_to(&key)) {
+                return at;
             }
         }
         0

@@ -42,10 +42,7 @@ impl<'a, R: Wait + Clock, W: Watchers> Clients<'a, R, W> {
 
     /// Whether boards have waited long enough by this millisecond.
     fn is_due_by(&self, now: u64) -> bool {
-        match self.service.hall().next_due() {
-            Some(due) => due <= now,
-            None => false,
-        }
+        self.service.hall().next_due().is_some_and(|due| due <= now)
     }
 
     /// A connection has left the hall.

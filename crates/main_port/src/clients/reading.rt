@@ -51,24 +51,13 @@ impl<'a, R: Wait + Clock, W: Watchers> Clients<'a, R, W> {
         self.stands_due(number);
     }
 
-    /// Whether a connection is answered or read in its turn.
+    /// Whether a connection is answered or read in its turn. What one sends that leaves once what is due to it is written is not read.
     fn is_heard(&self, number: u64) -> bool {
-        match self.clients.get(&number) {
-            Some(client) => {
-                client.state == State::Interrupted || client.is_read() && !self.is_leaving(number)
-            }
-            None => false,
-        }
-    }
-
-    /// Whether a connection leaves once what is due to it is written. What it sends meanwhile is not read.
-    fn is_leaving(&self, number: u64) -> bool {
-        match self.clients.get(&number) {
-            Some(client) => {
-                client.is_blocked() && self.service.stage(number) == Some(Stage::Leaves)
-            }
-            None => false,
-        }
+        let Some(client) = self.clients.get(&number) else {
+            return false;
+        };
+        let is_leaving = client.is_blocked() && self.service.stage(number) == Some(Stage::Leaves);
+        client.state == State::Interrupted || client.is_read() && !is_leaving
     }
 
     /// A connection that was refused to follow is not read for a moment: from now on, however long its answers took.
@@ -91,10 +80,9 @@ impl<'a, R: Wait + Clock, W: Watchers> Clients<'a, R, W> {
 
     /// Whether a connection is read now.
     fn is_read(&self, number: u64) -> bool {
-        match self.clients.get(&number) {
-            Some(client) => client.is_read(),
-            None => false,
-        }
+        self.clients
+            .get(&number)
+            .is_some_and(|client| client.is_read())
     }
 
     /// Reads once from a connection, and answers what was read until this time. Returns whether it is read again in this turn.
@@ -288,7 +276,7 @@ impl<'a, R: Wait + Clock, W: Watchers> Clients<'a, R, W> {
     }
 
     /// How far the loop is with a connection.
-    fn state(&self, number: u64) -> Option<State> {
+    pub(super) fn state(&self, number: u64) -> Option<State> {
         Some(self.clients.get(&number)?.state)
     }
 }

@@ -6,6 +6,7 @@ use super::Clients;
 use crate::client::{Input, Role, State};
 use crate::watchers::Watchers;
 use relay_frames::Code;
+use relay_hall::Shown;
 use relay_service::Stage;
 use server_loop::{Stage as Waited, Times, Verdict};
 use std::sync::Wait;
@@ -139,13 +140,10 @@ impl<'a, R: Wait + Clock, W: Watchers> Clients<'a, R, W> {
 
     /// What a connection is waited for.
     fn waited(&self, number: u64) -> Waited {
-        match self.clients.get(&number) {
-            Some(client) => match client.state {
-                State::Drains(_) => return Waited::Drains,
-                State::InputClosed => return Waited::Leaves,
-                _ => {}
-            },
-            None => {}
+        match self.state(number) {
+            Some(State::Drains(_)) => return Waited::Drains,
+            Some(State::InputClosed) => return Waited::Leaves,
+            _ => {}
         }
         match self.service.stage(number) {
             Some(Stage::Comes) => Waited::Comes,
@@ -209,27 +207,24 @@ impl<'a, R: Wait + Clock, W: Watchers> Clients<'a, R, W> {
 
     /// Whether a connection has yet to take the end of its board's game, if it follows one: behind that it follows no more.
     fn is_due_the_end(&self, number: u64) -> bool {
-        if self.service.stage(number) != Some(Stage::Follows) {
-            return false;
-        }
-        let Some(at) = self.service.place(number) else {
-            return false;
-        };
-        match self.service.hall().board(at) {
-            Some(shown) => shown.outcome().is_some(),
-            None => false,
-        }
+        self.service.stage(number) == Some(Stage::Follows)
+            && self
+                .followed(number)
+                .is_some_and(|shown| shown.outcome().is_some())
     }
 
     /// How many moves of its board a connection has yet to take, if it follows one.
     fn behind(&self, number: u64) -> u64 {
-        let (Some(at), Some(next)) = (self.service.place(number), self.service.next(number)) else {
+        let Some(next) = self.service.next(number) else {
             return 0;
         };
-        match self.service.hall().board(at) {
-            Some(shown) => u64::from(shown.summary().plies).saturating_sub(next),
-            None => 0,
-        }
+        let plies = self.followed(number).map_or(0, |shown| shown.plies());
+        u64::from(plies).saturating_sub(next)
+    }
+
+    /// The board that a connection follows, if it follows one.
+    fn followed(&self, number: u64) -> Option<Shown<'_>> {
+        self.service.hall().board(self.service.place(number)?)
     }
 
     /// A connection takes everything that its board has for it, however much is due to it already.
@@ -247,9 +242,7 @@ impl<'a, R: Wait + Clock, W: Watchers> Clients<'a, R, W> {
 
     /// Serving ends: those that ask are told so, and with a journal, whose games go on at the next start, those that follow too.
     pub(crate) fn tell_of_the_end(&mut self) {
-        let many = self.clients.len();
-        for told in 0..many {
-            let index = many.saturating_sub(told).saturating_sub(1);
+        for index in (0..self.clients.len()).rev() {
             if let Some((number, _)) = self.clients.get_index(index) {
                 let number = *number;
                 self.tells_of_the_end(number);

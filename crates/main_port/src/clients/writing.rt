@@ -59,18 +59,16 @@ impl<'a, R: Wait + Clock, W: Watchers> Clients<'a, R, W> {
 
     /// Whether a connection has gone, or takes no more now.
     fn is_blocked(&self, number: u64) -> bool {
-        match self.clients.get(&number) {
-            Some(client) => client.is_blocked(),
-            None => true,
-        }
+        self.clients
+            .get(&number)
+            .is_none_or(|client| client.is_blocked())
     }
 
     /// Whether a connection follows a board.
     pub(super) fn follows(&self, number: u64) -> bool {
-        match self.clients.get(&number) {
-            Some(client) => matches!(client.role, Role::Follower(_)),
-            None => false,
-        }
+        self.clients
+            .get(&number)
+            .is_some_and(|client| matches!(client.role, Role::Follower(_)))
     }
 
     /// Puts moves of the board that a connection follows behind what is due to it. Returns whether there are more.
