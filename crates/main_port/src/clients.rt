@@ -205,30 +205,21 @@ impl<'a, R: Wait + Clock, W: Watchers> Clients<'a, R, W> {
         let Ok(number) = self.service.connect() else {
             return false;
         };
-        let client = Client::new(stream, self.clock.millis());
+        let mut client = Client::new(stream, self.clock.millis());
+        let interest = Interest::READABLE | Interest::WRITABLE;
+        let registered = self
+            .poll
+            .register(&mut client.stream, Token(number as usize), interest);
+        if registered.is_err() {
+            self.service.disconnect(number);
+            return false;
+        }
         if self.clients.insert(number, client).is_err() {
             self.service.disconnect(number);
             return false;
         }
         self.coming = self.coming.saturating_add(1);
-        let is_registered = self.registers(number);
-        if !is_registered {
-            self.remove(number);
-        }
-        is_registered
-    }
-
-    /// Registers a connection. Returns whether that succeeded.
-    fn registers(&mut self, number: u64) -> bool
-        ensures { OthersStay number self.old.clients.entries self.new.clients.entries }
-    {
-        let Some(client) = self.clients.get_mut(&number) else {
-            return false;
-        };
-        let interest = Interest::READABLE | Interest::WRITABLE;
-        self.poll
-            .register(&mut client.stream, Token(number as usize), interest)
-            .is_ok()
+        true
     }
 
     // ---- Turns.
@@ -242,19 +233,17 @@ impl<'a, R: Wait + Clock, W: Watchers> Clients<'a, R, W> {
         };
         for event in events.iter() {
             report.told = report.told.saturating_add(1);
-            report.has_newcomers = report.has_newcomers || event.token() == LISTENER;
-            self.notes_event(event);
+            match event.token() {
+                LISTENER => report.has_newcomers = true,
+                WAKER => {}
+                Token(number) => self.notes_event(number as u64, event),
+            }
         }
         report
     }
 
     /// Notes one thing that the system reported: that a connection may be read or written, or that its output has ended.
-    fn notes_event(&mut self, event: &Event) {
-        let token = event.token();
-        if token == LISTENER || token == WAKER {
-            return;
-        }
-        let number = token.0 as u64;
+    fn notes_event(&mut self, number: u64, event: &Event) {
         if let Some(client) = self.clients.get_mut(&number) {
             client.is_reported(event.is_readable(), event.is_read_closed());
             self.stands_due(number);

@@ -28,7 +28,7 @@ pub(crate) struct Rounds {
     /// How many changes there may be in a round: few enough that no queue fills.
     most: u16,
     /// How many turns of followers became due so far.
-    pub(crate) due: u64,
+    due: u64,
     /// How many turns the loop has begun.
     turns: u64,
 }
@@ -41,17 +41,14 @@ impl Rounds {
     /// There was no memory.
     pub(crate) fn new(alloc: Global, limits: &Limits) -> Result<Rounds, AllocError> {
         let boards = usize::from(limits.boards());
-        let mut each = Vec::with_capacity(alloc, boards)?;
-        for _ in 0..boards {
-            each.push(Round {
-                changes: 0,
-                ends: 0,
-                owned: 0,
-                has_changed: false,
-            })?;
-        }
+        let none = Round {
+            changes: 0,
+            ends: 0,
+            owned: 0,
+            has_changed: false,
+        };
         Ok(Rounds {
-            each,
+            each: vec![in alloc; none; boards]?,
             changed: VecDeque::with_capacity(alloc, boards)?,
             most: (limits.capacity() / 4).max(1),
             due: 0,
