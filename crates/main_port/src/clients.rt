@@ -206,10 +206,9 @@ impl<'a, R: Wait + Clock, W: Watchers> Clients<'a, R, W> {
             return false;
         };
         let mut client = Client::new(stream, self.clock.millis());
+        let token = Token(number as usize);
         let interest = Interest::READABLE | Interest::WRITABLE;
-        let registered = self
-            .poll
-            .register(&mut client.stream, Token(number as usize), interest);
+        let registered = self.poll.register(&mut client.stream, token, interest);
         if registered.is_err() {
             self.service.disconnect(number);
             return false;
@@ -337,8 +336,7 @@ impl<'a, R: Wait + Clock, W: Watchers> Clients<'a, R, W> {
         if !self.has_journal() {
             self.send_answers();
         }
-        self.serve(Rank::Sibling, most / 2);
-        self.send_answers();
+        self.serve_rank(Rank::Sibling, most / 2);
     }
 
     /// Gives those of a rank a turn that are due one, and sends what they are answered.

@@ -6,8 +6,7 @@ use std::sync::Wait;
 use std::sync::atomic::{AtomicU64, Ordering};
 use std::time::Duration;
 
-/// A count of events, and how many threads sleep on it. Counting and waking are two calls, so that the waking, which costs far more, can
-/// be postponed.
+/// A count of events, and how many threads sleep on it.
 #[derive(Drop)]
 pub(crate) struct EventCount {
     count: AtomicU64,
@@ -28,14 +27,10 @@ impl EventCount {
         self.count.load(Ordering::SeqCst)
     }
 
-    /// One more. Those who sleep on the count stay asleep until `wake_all`.
+    /// One more: all who sleep on the count are woken. A sleeper counts itself before the system compares the count of events and puts it
+    /// to sleep; the count is advanced here before sleepers are looked for. So nobody sleeps through an event and the wake after it.
     pub(crate) fn advance(&self) {
         self.count.fetch_add(1, Ordering::SeqCst);
-    }
-
-    /// Wakes all who sleep on it. A sleeper counts itself before the system compares the count of events and puts it to sleep; whoever
-    /// advances the count does so before it looks for sleepers here. So nobody sleeps through an event and the wake after it.
-    pub(crate) fn wake_all(&self) {
         if self.sleepers.load(Ordering::SeqCst) != 0 {
             self.count.wake_all();
         }

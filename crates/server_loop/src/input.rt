@@ -11,8 +11,8 @@ use std::thread::{Builder, Threads};
 /// How many bytes the stack of the thread has.
 const STACK_BYTES: usize = 256 * 1024;
 
-/// Starts the thread, if the system has one. It lasts as long as standard input does, so nobody joins it. When that ends, or cannot be read,
-/// it says so and wakes the loop. What is read is ignored.
+/// Starts the thread, if the system has one. It lasts as long as standard input does, so nobody joins it. When that ends, or cannot be
+/// read, it says so and wakes the loop. What is read is ignored.
 pub fn watch_input<R>(
     rt: &R,
     has_ended: &Arc<AtomicBool, Global>,

@@ -87,12 +87,6 @@ impl Shared {
         let mut lines = self.lines.lock(rt);
         mem::replace(&mut *lines, Lines::new(self.alloc))
     }
-
-    /// Wakes the thread.
-    fn wake(&self) {
-        self.noted.advance();
-        self.noted.wake_all();
-    }
 }
 
 /// What is written on standard error.
@@ -164,14 +158,14 @@ impl Log {
         if is_short && !is_added {
             shared.is_short.store(false, Ordering::SeqCst);
         }
-        shared.wake();
+        shared.noted.advance();
     }
 
     /// Lets the thread write what is left, and joins it.
     pub fn end<R: Threads>(self, rt: &R) {
         let Log { shared, thread } = self;
         shared.is_over.store(true, Ordering::SeqCst);
-        shared.wake();
+        shared.noted.advance();
         if let Some(thread) = thread {
             let () = thread.join(rt);
         }
