@@ -18,8 +18,8 @@ pub(crate) enum State {
     Interrupted,
     /// So much is due to it that it is neither answered nor read before that is written.
     Full,
-    /// It was refused to follow, and has not been read since this millisecond.
-    Pauses(u64),
+    /// It was refused to follow, and is not read for a moment.
+    Pauses,
     /// Its own output has ended: it goes once everything is written.
     InputClosed,
     /// Everything was written to it, and the output to it has ended. So many pieces were read and dropped since then.

@@ -70,7 +70,7 @@ impl<'a, R: Wait + Clock, W: Watchers> Clients<'a, R, W> {
         if client.refused > 0 && client.state == State::Talks {
             self.clock.look(self.rt);
             let since = start_of_pause(self.clock.millis(), number);
-            client.state = State::Pauses(since);
+            client.state = State::Pauses;
             let until = end_of_pause(since, client.refused);
             if self.backoff.add(number, until).is_err() {
                 client.has_paused();

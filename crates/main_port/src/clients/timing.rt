@@ -62,7 +62,7 @@ impl<'a, R: Wait + Clock, W: Watchers> Clients<'a, R, W> {
         let Some(client) = self.clients.get_mut(&number) else {
             return;
         };
-        if let State::Pauses(_) = client.state {
+        if client.state == State::Pauses {
             client.has_paused();
             self.stands_due(number);
         }
