@@ -8,7 +8,6 @@ use crate::client::{Role, State};
 use crate::passing::send_to;
 use crate::watchers::Watchers;
 use relay_frames::Code;
-use relay_hall::Owner;
 use std::mem;
 use std::sync::Wait;
 use std::time::Clock;
@@ -36,25 +35,18 @@ impl<'a, R: Wait + Clock, W: Watchers> Clients<'a, R, W> {
             self.service.tick(now);
         }
         self.service.leave(number);
-        self.has_left(number, &owner);
-        true
-    }
-
-    /// Whether boards have waited long enough by this millisecond.
-    fn is_due_by(&self, now: u64) -> bool {
-        self.service.hall().next_due().is_some_and(|due| due <= now)
-    }
-
-    /// A connection has left the hall.
-    fn has_left(&mut self, number: u64, owner: &Owner)
-        ensures { OthersStay number self.old.clients.entries self.new.clients.entries }
-    {
         let boards = self.service.hall().len();
         self.gather(boards);
         self.leaves_board(number);
         if let Some(key) = &owner.key {
             self.log.waits(self.service.hall(), key);
         }
+        true
+    }
+
+    /// Whether boards have waited long enough by this millisecond.
+    fn is_due_by(&self, now: u64) -> bool {
+        self.service.hall().next_due().is_some_and(|due| due <= now)
     }
 
     /// Those leave that were to leave behind a `tick`.
