@@ -8,7 +8,7 @@ use super::{
 };
 use crate::watchers::Watchers;
 use std::sync::Wait;
-use std::time::{Clock, Duration};
+use std::time::Clock;
 
 impl<'a, R: Wait + Clock, W: Watchers> Clients<'a, R, W> {
     /// Writes and syncs all that boards have got since the last time, by whomever. Returns whether all is on the disk: only then may
@@ -30,19 +30,10 @@ impl<'a, R: Wait + Clock, W: Watchers> Clients<'a, R, W> {
             let began = self.clock.passed();
             self.journal_failure = self.service.commit().err();
             self.clock.look(self.rt);
-            self.notes_commit(began);
+            let took = self.clock.passed().saturating_sub(began).as_micros();
+            self.commit_micros = u64::try_from(took).unwrap_or(u64::MAX);
         }
         self.journal_failure.is_none()
-    }
-
-    /// A commit is done that began then.
-    fn notes_commit(&mut self, began: Duration)
-        ensures service { self.new.service ≡ self.old.service }
-        ensures failure { self.new.journal_failure ≡ self.old.journal_failure }
-        ensures clients { self.new.clients ≡ self.old.clients }
-    {
-        let took = self.clock.passed().saturating_sub(began).as_micros();
-        self.commit_micros = u64::try_from(took).unwrap_or(u64::MAX);
     }
 
     /// Whether boards are kept in a journal.
