@@ -1,6 +1,6 @@
 //! All boards of a relay, for connections that watch them all: the text of each, and when it last changed.
 
-use crate::board_table::{BoardCopy, BoardTable, Progress};
+use crate::board_table::{BoardTable, Progress};
 use relay_frames::outgoing;
 use relay_messages::encode_board;
 use std::alloc::{AllocError, Global};
@@ -28,24 +28,6 @@ struct Entry {
 }
 
 impl Entry {
-    /// Makes its text again. The change has this number.
-    fn make(
-        &mut self,
-        alloc: Global,
-        board: &BoardCopy,
-        now: u64,
-        change: u64,
-    ) -> Result<(), AllocError> {
-        let text = encode_board(alloc, &board.summary())?;
-        let mut frame = Vec::new(alloc);
-        outgoing::text(text.as_str(), &mut frame)?;
-        self.frame = frame;
-        self.made_of = Some(board.progress());
-        self.made_at = now;
-        self.change = change;
-        Ok(())
-    }
-
     /// Whether its text has to be made again: there is news, and it was not made within this second, or its game has ended.
     fn is_due(&self, progress: Progress, now: u64) -> bool {
         match self.made_of {
@@ -78,33 +60,35 @@ impl BoardList {
     pub(crate) fn refresh(&mut self, boards: &BoardTable, now: u64) -> Result<(), AllocError> {
         for at in 0..boards.len() {
             if at == self.entries.len() {
-                self.add()?;
+                self.entries.push(Entry {
+                    made_of: None,
+                    made_at: 0,
+                    frame: Vec::new(self.alloc),
+                    change: 0,
+                })?;
             }
             self.refresh_one(at, boards, now)?;
         }
         Ok(())
     }
 
-    /// Adds a board, of which no text was made yet.
-    fn add(&mut self) -> Result<(), AllocError> {
-        self.entries.push(Entry {
-            made_of: None,
-            made_at: 0,
-            frame: Vec::new(self.alloc),
-            change: 0,
-        })?;
-        Ok(())
-    }
-
     /// Makes the text of the board of this index again, if that is due.
     fn refresh_one(&mut self, at: usize, boards: &BoardTable, now: u64) -> Result<(), AllocError> {
-        let change = self.changes.saturating_add(1);
         let (Some(entry), Some(board)) = (self.entries.get_mut(at), boards.board(at)) else {
             return Ok(());
         };
-        if entry.is_due(board.progress(), now) {
-            entry.make(self.alloc, board, now, change)?;
-            self.changes = change;
+        let progress = board.progress();
+        if entry.is_due(progress, now) {
+            let text = encode_board(self.alloc, &board.summary())?;
+            let mut frame = Vec::new(self.alloc);
+            outgoing::text(text.as_str(), &mut frame)?;
+            self.changes = self.changes.saturating_add(1);
+            *entry = Entry {
+                made_of: Some(progress),
+                made_at: now,
+                frame,
+                change: self.changes,
+            };
         }
         Ok(())
     }

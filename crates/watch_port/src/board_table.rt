@@ -176,13 +176,6 @@ fn apply(
     Ok(())
 }
 
-/// The index of the board of this name.
-fn find(boards: &[BoardCopy], name: &BoardName) -> Option<usize>
-    ensures { result ≡ position (λ b. same_name b.name name.now) boards.now }
-{
-    boards.iter().position(|board| board.name == *name)
-}
-
 /// The boards of a loop, in the order of opening, and the ring by which it is told of them. Contracts see what it was told, of which its
 /// boards are a function.
 #[derive(Drop)]
@@ -279,6 +272,6 @@ impl BoardTable {
     pub fn find(&self, name: &BoardName) -> Option<usize>
         ensures { result ≡ position (λ b. same_name b.name name.now) (shown_by self.now) }
     {
-        find(self.boards.as_slice(), name)
+        self.boards.iter().position(|board| board.name == *name)
     }
 }

@@ -121,9 +121,9 @@ impl Feed {
     pub fn new(alloc: Global, limits: Limits) -> Result<(Feed, BoardTable), AllocError>
         ensures { IfOk result (λ made. (made.0 ≡ []) × (made.1 ≡ nothing_told limits.plies)) }
     {
-        let (sender, receiver) = RingBuffer::new(alloc, MOST_EVENTS)?;
+        let (ring, receiver) = RingBuffer::new(alloc, MOST_EVENTS)?;
         let feed = Feed {
-            ring: sender,
+            ring,
             told: Vec::new(alloc),
             is_fresh: false,
         };
@@ -150,13 +150,6 @@ impl Feed {
         }
     }
 
-    /// Of how many boards the loop was told.
-    fn boards_told(&self) -> usize
-        ensures { result ≡ length (told_by self.now) }
-    {
-        self.told.len()
-    }
-
     /// Whether the loop was told anything since the last such call.
     pub(crate) fn take_fresh(&mut self) -> bool
         ensures { self.new ≡ self.old }
@@ -166,13 +159,7 @@ impl Feed {
 
     /// Tells the loop of a board what it has not been told, in order, as far as there is room. Returns whether that is all.
     pub(crate) fn tell(&mut self, board: &BoardUpdate<'_>) -> bool {
-        if !self.tell_opened(board) {
-            return false;
-        }
-        if !self.tell_moves(board) {
-            return false;
-        }
-        self.tell_end(board)
+        self.tell_opened(board) && self.tell_moves(board) && self.tell_end(board)
     }
 
     /// Tells the loop that a board was opened, once it knows of those before.
@@ -180,8 +167,8 @@ impl Feed {
         ensures put { IsPut self.old (opening_of self.old board.now) result self.new }
     {
         let at = usize::from(board.at);
-        if at != self.boards_told() {
-            return at < self.boards_told();
+        if at != self.told.len() {
+            return at < self.told.len();
         }
         self.put(BoardEvent::Opened(board.name, board.start))
     }

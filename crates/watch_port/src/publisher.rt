@@ -98,11 +98,8 @@ impl Publisher {
 
     /// How many moves of the board of this index every loop was told.
     fn least_told(&self, at: u16) -> u16 {
-        let mut least = u16::MAX;
-        for feed in self.feeds.iter() {
-            least = least.min(feed.moves_told(at));
-        }
-        least
+        let told = self.feeds.iter().map(|feed| feed.moves_told(at));
+        told.min().unwrap_or(u16::MAX)
     }
 
     /// Whether the loop of this feed was told anything since the last such call.
