@@ -60,10 +60,8 @@ impl Acceptors {
             registry: registry.try_clone()?,
             clients: AtomicU32::new(0),
         };
-        match self.each.push(acceptor) {
-            Ok(()) => Ok(at),
-            Err(_) => Err(io::Error::from(ErrorKind::OutOfMemory)),
-        }
+        self.each.push(acceptor)?;
+        Ok(at)
     }
 
     /// Whether this one accepts.
@@ -113,10 +111,7 @@ impl Acceptors {
 
     /// How many connections the loop of this one has.
     fn clients(&self, at: usize) -> u32 {
-        match self.each.get(at) {
-            Some(acceptor) => acceptor.clients.load(Ordering::SeqCst),
-            None => u32::MAX,
-        }
+        self.each.get(at).map_or(u32::MAX, |acceptor| acceptor.clients.load(Ordering::SeqCst))
     }
 
     /// The one whose loop has the fewest connections, and how many it has.
@@ -146,13 +141,9 @@ impl Acceptors {
 
     /// Sets what is reported to the loop of this one.
     fn set(&self, at: usize, interest: Interest) -> io::Result<()> {
-        match self.each.get(at) {
-            Some(acceptor) => {
-                acceptor
-                    .registry
-                    .reregister(&mut SourceFd(&self.listener), LISTENER, interest)
-            }
-            None => Err(io::Error::from(ErrorKind::NotFound)),
-        }
+        let acceptor = self.each.get(at).ok_or(ErrorKind::NotFound)?;
+        acceptor
+            .registry
+            .reregister(&mut SourceFd(&self.listener), LISTENER, interest)
     }
 }

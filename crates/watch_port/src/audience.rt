@@ -1,7 +1,6 @@
 //! The spectators of one board, and the tape that they are sent.
 
 use crate::board_table::{BoardCopy, Progress};
-use crate::ready_list::ReadyList;
 use c960_board::Position;
 use relay_watching::{SpectatorConnection, Tape};
 use slab::Slab;
@@ -17,24 +16,24 @@ pub(crate) struct Audience {
     taped: Option<Progress>,
     /// How many spectators there are.
     pub(crate) count: usize,
-    /// The second in which the last spectator left. An audience that is empty is dropped soon after it.
+    /// The second in which somebody last left, or asked to follow. An audience that is empty is dropped soon after it.
     pub(crate) left_at: u64,
-    /// Those that are written to as soon as there is news.
-    pub(crate) ready: ReadyList,
+    /// The keys of those that are written to as soon as there is news: all but those whose connections take no more now.
+    pub(crate) ready: Vec<usize>,
     /// The place at which a spectator last joined, and the position there.
     last: Option<(u16, Position)>,
 }
 
 impl Audience {
     /// An audience of the board of this index, still without spectators.
-    pub(crate) fn new(alloc: Global, board: usize) -> Audience {
+    pub(crate) fn new(alloc: Global, board: usize, now: u64) -> Audience {
         Audience {
             board,
             tape: Tape::new(alloc),
             taped: None,
             count: 0,
-            left_at: 0,
-            ready: ReadyList::new(alloc),
+            left_at: now,
+            ready: Vec::new(alloc),
             last: None,
         }
     }
@@ -91,50 +90,21 @@ pub(crate) fn tape_at(audiences: &Slab<Audience>, at: Option<usize>) -> Option<&
     Some(&audiences.get(at?)?.tape)
 }
 
-/// Drops the audiences that have been empty for about a second, and their tapes with them. If an audience were dropped at once, its tape
-/// would be made again for each spectator of a board whose spectators come and go one after another.
-pub(crate) fn drop_empty(audiences: &mut Slab<Audience>, now: u64) {
-    for at in 0..audiences.capacity() {
-        let is_dropped = match audiences.get(at) {
-            Some(audience) => audience.count == 0 && audience.left_at < now,
-            None => false,
-        };
-        if is_dropped {
-            let _ = audiences.try_remove(at);
-        }
-    }
-}
-
 /// Puts on a tape what it lacks of its board: the moves from its length on, and the end.
 ///
 /// # Errors
 ///
 /// There was no memory. Some of it may be there.
 fn put_on(tape: &mut Tape, board: &BoardCopy) -> Result<(), AllocError> {
-    put_moves_on(tape, board)?;
+    let from = u16::try_from(tape.len()).unwrap_or(u16::MAX);
+    for place in from..board.len() {
+        match board.move_at(place) {
+            Some(m) if !tape.is_over() && tape.len() < 65536 => tape.push(m)?,
+            _ => break,
+        }
+    }
     match board.outcome {
         Some(outcome) if !tape.is_over() => tape.finish(outcome),
         _ => Ok(()),
     }
-}
-
-/// Puts on a tape, unless its game is over, the moves that it lacks of its board.
-///
-/// # Errors
-///
-/// There was no memory. Some of them may be there.
-fn put_moves_on(tape: &mut Tape, board: &BoardCopy) -> Result<(), AllocError> {
-    let Ok(from) = u16::try_from(tape.len()) else {
-        return Ok(());
-    };
-    for place in from..board.len() {
-        let Some(m) = board.move_at(place) else {
-            return Ok(());
-        };
-        if tape.is_over() || tape.len() >= 65536 {
-            return Ok(());
-        }
-        tape.push(m)?;
-    }
-    Ok(())
 }

@@ -2,14 +2,11 @@
 
 use crate::watch_connection::{Doing, WatchConnection};
 use mio::net::TcpStream;
-use relay_frames::{Code, outgoing};
+use relay_frames::Code;
 use relay_watching::Tape;
 use server_loop::{Deadlines, Delivery, Stage, Written, write_once};
 use std::alloc::AllocError;
 use std::net::Shutdown;
-
-/// The close code for a client for which there is no room now (IANA's registry of close codes).
-const AGAIN: u16 = 1013;
 
 /// A client: its connection, as bytes in and out, and its socket.
 #[derive(Drop)]
@@ -75,20 +72,23 @@ impl Client {
     }
 
     /// A client that has shaken hands but for which there was no room is told so, and leaves. Any other asks from now on.
+    #[tactic(auto, unfolding(relay_frames::specs::Codes::may_be_sent))]
     pub(crate) fn turn_away_if_full(&mut self, now: u64) -> Result<(), AllocError> {
         if !matches!(self.connection.doing, Doing::Asks) {
             return Ok(());
         }
         self.deadlines.begins(now);
-        if !self.has_room && !self.connection.is_leaving() {
-            outgoing::close(Code::new(AGAIN), self.connection.output())?;
-            self.connection.leaves();
+        if !self.has_room && !self.connection.is_leaving {
+            self.connection.close(Code::AGAIN)?;
         }
         Ok(())
     }
 
-    /// Ends the output: the peer reads what was written, and then the end.
-    pub(crate) fn end_output(&mut self) {
+    /// It was sent everything. Its output ends, and what it still sends is read for a while, since a reset would otherwise destroy the end
+    /// of it.
+    pub(crate) fn drains(&mut self, now: u64) {
         let _ = self.stream.shutdown(Shutdown::Write);
+        self.is_draining = true;
+        self.deadlines.begins(now);
     }
 }

@@ -10,7 +10,6 @@ use crate::board_list::BoardList;
 use crate::board_table::BoardTable;
 use crate::client::Client;
 use crate::port::Port;
-use crate::ready_list::ReadyList;
 use crate::watch_connection::WatchConnection;
 use mio::net::TcpStream;
 use mio::{Interest, Registry, Token};
@@ -23,15 +22,15 @@ use std::alloc::Global;
 #[derive(Drop)]
 pub(crate) struct Clients<'a> {
     alloc: Global,
-    port: &'a Port,
+    pub(crate) port: &'a Port,
     /// The number of the acceptor by which they come.
-    acceptor: usize,
+    pub(crate) acceptor: usize,
     boards: BoardTable,
     clients: Slab<Client>,
     audiences: Slab<Audience>,
     /// All boards, and the clients that watch them all and are written to as soon as there is news.
     list: BoardList,
-    list_ready: ReadyList,
+    list_ready: Vec<usize>,
     list_count: usize,
     /// The number of the last change that was sent to the ready ones. It is 0 if one of them has not been sent it yet.
     list_told: u64,
@@ -39,7 +38,7 @@ pub(crate) struct Clients<'a> {
     /// Clients that are to be read on although the system reports nothing of them.
     unread: Vec<usize>,
     /// How many seconds have passed.
-    now: u64,
+    pub(crate) now: u64,
     /// The second in which the clients were last looked at.
     looked_at: u64,
 }
@@ -60,7 +59,7 @@ impl<'a> Clients<'a> {
             clients: Slab::new(alloc),
             audiences: Slab::new(alloc),
             list: BoardList::new(alloc),
-            list_ready: ReadyList::new(alloc),
+            list_ready: Vec::new(alloc),
             list_count: 0,
             list_told: 0,
             decoder: Decoder::new(alloc),
@@ -81,39 +80,24 @@ impl<'a> Clients<'a> {
     }
 
     /// Adds a newcomer. The system is to report when it may be read and written.
-    pub(crate) fn enters(&mut self, registry: &Registry, stream: TcpStream) {
-        let has_room = self.port.enters(self.acceptor);
+    pub(crate) fn enters(&mut self, registry: &Registry, mut stream: TcpStream) {
+        let token = Token(self.clients.vacant_key());
+        let interest = Interest::READABLE | Interest::WRITABLE;
+        if registry.register(&mut stream, token, interest).is_err() {
+            return;
+        }
         let client = Client {
             stream,
             connection: WatchConnection::new(self.alloc),
             deadlines: Deadlines::new(self.now),
             ready_index: None,
-            has_room,
+            has_room: self.port.enters(self.acceptor),
             is_draining: false,
             is_full: false,
             is_unread: false,
         };
-        match self.clients.insert(client) {
-            Ok(key) => {
-                if !self.is_registered(registry, key) {
-                    self.remove(key);
-                }
-            }
-            Err(_) => self.port.leaves(self.acceptor),
-        }
-    }
-
-    /// Registers a client's connection. Returns whether that succeeded.
-    fn is_registered(&mut self, registry: &Registry, key: usize) -> bool {
-        match self.clients.get_mut(key) {
-            Some(client) => registry
-                .register(
-                    &mut client.stream,
-                    Token(key),
-                    Interest::READABLE | Interest::WRITABLE,
-                )
-                .is_ok(),
-            None => false,
+        if self.clients.insert(client).is_err() {
+            self.port.leaves(self.acceptor);
         }
     }
 
@@ -122,18 +106,6 @@ impl<'a> Clients<'a> {
         self.watches_no_more(key);
         if self.clients.try_remove(key).is_some() {
             self.port.leaves(self.acceptor);
-        }
-    }
-
-    /// A client was sent everything. Its output ends, and what it still sends is read for a while, since a reset would otherwise destroy
-    /// the end of it.
-    fn drains(&mut self, key: usize) {
-        self.watches_no_more(key);
-        let now = self.now;
-        if let Some(client) = self.clients.get_mut(key) {
-            client.is_draining = true;
-            client.end_output();
-            client.deadlines.begins(now);
         }
     }
 }

@@ -10,7 +10,6 @@ use mio::{Registry, Token};
 use server_loop::{Arrival, LISTENER, LoopClock, LoopWaker, MOST_EVENTS, Poller, Reserve, WAKER};
 use std::alloc::Global;
 use std::io;
-use std::io::ErrorKind;
 use std::net::Net;
 use std::sync::{Arc, Wait};
 use std::time::{Clock, Duration};
@@ -46,12 +45,10 @@ impl EventLoop {
         limits: Limits,
     ) -> io::Result<(EventLoop, Feed)> {
         let poller = Poller::new(net, alloc)?;
-        let Ok((feed, boards)) = Feed::new(alloc, limits) else {
-            return Err(io::Error::from(ErrorKind::OutOfMemory));
-        };
+        let (feed, boards) = Feed::new(alloc, limits)?;
         let event_loop = EventLoop {
             alloc,
-            acceptor: port.add_acceptor(poller.registry())?,
+            acceptor: port.acceptors.add(poller.registry())?,
             poller,
             boards,
         };
@@ -71,7 +68,7 @@ impl EventLoop {
     pub fn run<R: Clock + Wait>(self, rt: &R, port: &Port) -> io::Result<()> {
         let acceptor = self.acceptor;
         let served = self.serve(rt, port);
-        port.acceptors().end(acceptor);
+        port.acceptors.end(acceptor);
         served
     }
 
@@ -85,9 +82,7 @@ impl EventLoop {
         } = self;
         let mut turns = Turns {
             clients: Clients::new(alloc, port, acceptor, boards),
-            reserve: Reserve::new(port.listener()),
-            port,
-            acceptor,
+            reserve: Reserve::new(&port.listener),
             clock: LoopClock::begin(rt)?,
             has_newcomers: true,
             heard_by: 0,
@@ -108,9 +103,6 @@ impl EventLoop {
 struct Turns<'a> {
     clients: Clients<'a>,
     reserve: Reserve,
-    port: &'a Port,
-    /// The number of its acceptor.
-    acceptor: usize,
     clock: LoopClock,
     /// Whether there may be newcomers that the system does not report again.
     has_newcomers: bool,
@@ -123,7 +115,7 @@ struct Turns<'a> {
 impl<'a> Turns<'a> {
     /// How long the next turn waits at most.
     fn most_wait(&self) -> Duration {
-        let has_to_close = self.port.is_closing() && self.closes_at.is_none();
+        let has_to_close = self.clients.port.is_closing() && self.closes_at.is_none();
         if self.has_newcomers || self.clients.has_unread() || has_to_close {
             Duration::ZERO
         } else {
@@ -133,12 +125,13 @@ impl<'a> Turns<'a> {
 
     /// Handles what the system reported, and what is due. Returns whether it was the last turn.
     fn take<C: Clock>(&mut self, clock: &C, poller: &Poller) -> bool {
-        let asked = self.clients.now();
-        let began = self.look_at_clock(clock);
+        let asked = self.clients.now;
+        self.look_at_clock(clock);
+        let began = self.clients.now;
         // This comes before looking: whoever wakes the loop from now on wakes it again.
         poller.waker().reset();
         // The boards have ended if the port closes, so what is told then is the last.
-        let is_closing = self.port.is_closing();
+        let is_closing = self.clients.port.is_closing();
         self.clients.take_in_events();
         self.clients.hear_unread();
         let mut told = 0usize;
@@ -163,11 +156,9 @@ impl<'a> Turns<'a> {
     }
 
     /// Tells the clients how many seconds have passed.
-    fn look_at_clock<C: Clock>(&mut self, clock: &C) -> u64 {
+    fn look_at_clock<C: Clock>(&mut self, clock: &C) {
         self.clock.look(clock);
-        let passed = self.clock.seconds();
-        self.clients.is_now(passed);
-        passed
+        self.clients.now = self.clock.seconds();
     }
 
     /// Handles what the system reported.
@@ -189,27 +180,27 @@ impl<'a> Turns<'a> {
     /// Accepts newcomers while this loop does, but no more of them than the system reported events. An accept with nobody waiting takes as
     /// long as any other, so it is left to the system to report whether somebody still waits.
     fn accept(&mut self, registry: &Registry, told: usize) {
+        let (port, acceptor) = (self.clients.port, self.clients.acceptor);
         for _ in 0..told.clamp(1, MOST_NEWCOMERS) {
             if !self.accepts() {
                 break;
             }
-            match self.reserve.accept(self.port.listener()) {
+            match self.reserve.accept(&port.listener) {
                 Arrival::Newcomer(stream) => {
                     self.clients.enters(registry, stream);
-                    self.port.acceptors().even_out(self.acceptor);
+                    port.acceptors.even_out(acceptor);
                 }
                 Arrival::TurnedAway => {}
                 Arrival::Nobody | Arrival::Failed => self.has_newcomers = false,
             }
         }
-        self.has_newcomers = self.accepts() && !self.port.acceptors().tells_again(self.acceptor);
+        self.has_newcomers = self.accepts() && !port.acceptors.tells_again(acceptor);
     }
 
     /// Whether newcomers may be waiting, and are accepted here.
     fn accepts(&self) -> bool {
-        self.has_newcomers
-            && !self.port.is_closing()
-            && self.port.acceptors().accepts(self.acceptor)
+        let port = self.clients.port;
+        self.has_newcomers && !port.is_closing() && port.acceptors.accepts(self.clients.acceptor)
     }
 
     /// The port closes. Clients are told, and then waited for. Returns whether this is over.

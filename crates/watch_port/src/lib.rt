@@ -16,7 +16,6 @@ mod event_loop;
 mod feed;
 mod port;
 mod publisher;
-mod ready_list;
 mod request;
 mod watch_connection;
 

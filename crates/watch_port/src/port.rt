@@ -1,10 +1,8 @@
 //! The port that several loops serve.
 
 use crate::acceptors::Acceptors;
-use mio::Registry;
 use std::alloc::{AllocError, Global};
 use std::io;
-use std::io::ErrorKind;
 use std::net::TcpListener;
 use std::os::fd::AsRawFd;
 use std::sync::Arc;
@@ -13,13 +11,14 @@ use std::sync::atomic::{AtomicBool, AtomicU32, Ordering};
 /// A port whose newcomers several loops share evenly.
 #[derive(Drop)]
 pub struct Port {
-    listener: TcpListener,
-    acceptors: Acceptors,
+    pub(crate) listener: TcpListener,
+    /// Those of the loops.
+    pub(crate) acceptors: Acceptors,
     /// How many connections there may be, and how many there are.
     most: u32,
     count: Arc<AtomicU32, Global>,
     /// For how many seconds a connection that asks for nothing is waited for.
-    most_idle: Option<u64>,
+    pub(crate) most_idle: Option<u64>,
     is_closing: AtomicBool,
 }
 
@@ -37,15 +36,11 @@ impl Port {
         most_idle: Option<u64>,
     ) -> io::Result<Port> {
         listener.set_nonblocking(true)?;
-        let Ok(count) = Arc::new(alloc, AtomicU32::new(0)) else {
-            return Err(io::Error::from(ErrorKind::OutOfMemory));
-        };
-        let acceptors = Acceptors::new(alloc, listener.as_raw_fd());
         Ok(Port {
+            acceptors: Acceptors::new(alloc, listener.as_raw_fd()),
             listener,
-            acceptors,
             most,
-            count,
+            count: Arc::new(alloc, AtomicU32::new(0))?,
             most_idle,
             is_closing: AtomicBool::new(false),
         })
@@ -57,10 +52,7 @@ impl Port {
     ///
     /// There was no memory.
     pub fn count(&self) -> Result<Arc<AtomicU32, Global>, AllocError> {
-        match Arc::try_clone(&self.count) {
-            Ok(count) => Ok(count),
-            Err(_) => Err(AllocError),
-        }
+        Arc::try_clone(&self.count).map_err(|_| AllocError)
     }
 
     /// No more clients are accepted, and the loops end once theirs have gone, or after a while. The loops have yet to be woken.
@@ -71,30 +63,6 @@ impl Port {
     /// Whether it is closing.
     pub(crate) fn is_closing(&self) -> bool {
         self.is_closing.load(Ordering::SeqCst)
-    }
-
-    /// For how many seconds a connection that asks for nothing is waited for.
-    pub(crate) fn most_idle(&self) -> Option<u64> {
-        self.most_idle
-    }
-
-    /// The listener.
-    pub(crate) fn listener(&self) -> &TcpListener {
-        &self.listener
-    }
-
-    /// Adds the acceptor of the loop to which this registry reports newcomers. Returns its number.
-    ///
-    /// # Errors
-    ///
-    /// As the system's own calls, or there was no memory.
-    pub(crate) fn add_acceptor(&mut self, registry: &Registry) -> io::Result<usize> {
-        self.acceptors.add(registry)
-    }
-
-    /// The acceptors of the loops.
-    pub(crate) fn acceptors(&self) -> &Acceptors {
-        &self.acceptors
     }
 
     /// Counts a newcomer that came by this acceptor, and returns whether there is room for it.

@@ -1,20 +1,8 @@
 //! A connection's request, as it comes, and its answer.
 
 use crate::watch_connection::{Doing, WatchConnection};
-use relay_frames::{MOST_HEAD_BYTES, RequestRefusal, acceptance_of, end_of_head};
-use std::alloc::{AllocError, Global};
-use std::mem;
-
-/// What has come of a head.
-#[derive(Drop)]
-enum Head {
-    /// A part.
-    Part(Vec<u8>),
-    /// All of it, ending after this many bytes of the last piece.
-    Whole(Vec<u8>, usize),
-    /// It is refused before its end.
-    Refused(RequestRefusal),
-}
+use relay_frames::{HeadSoFar, RequestRefusal, acceptance_of, head_so_far};
+use std::alloc::AllocError;
 
 /// Takes what came from a connection that sends its request. Returns how many of these bytes belong to the request. The request is answered
 /// once it is complete; if it is refused, the connection leaves.
@@ -23,30 +11,27 @@ enum Head {
 ///
 /// There was no memory.
 pub(crate) fn take_request(
-    alloc: Global,
     connection: &mut WatchConnection,
     bytes: &[u8],
 ) -> Result<usize, AllocError> {
-    let Doing::Comes(begun) = &mut connection.doing else {
+    let Doing::Comes(head) = &mut connection.doing else {
         return Ok(0);
     };
-    let begun = mem::replace(begun, Vec::new(alloc));
-    match grow(begun, bytes)? {
-        Head::Part(head) => {
-            connection.doing = Doing::Comes(head);
-            Ok(bytes.len())
-        }
-        Head::Whole(head, used) => {
-            match acceptance_of(head.as_slice()) {
+    let seen = head.len();
+    head.extend_from_slice(bytes)?;
+    match head_so_far(head.as_slice(), seen) {
+        HeadSoFar::Part => Ok(bytes.len()),
+        HeadSoFar::Whole(end) => {
+            match acceptance_of(&head[..end]) {
                 Ok(acceptance) => {
-                    acceptance.write(connection.output())?;
+                    acceptance.write(&mut connection.output)?;
                     connection.doing = Doing::Asks;
                 }
                 Err(refusal) => refuse(connection, refusal)?,
             }
-            Ok(used)
+            Ok(end.saturating_sub(seen))
         }
-        Head::Refused(refusal) => {
+        HeadSoFar::Refused(refusal) => {
             refuse(connection, refusal)?;
             Ok(bytes.len())
         }
@@ -55,25 +40,8 @@ pub(crate) fn take_request(
 
 /// Tells a connection that its request is refused, after which it leaves.
 fn refuse(connection: &mut WatchConnection, refusal: RequestRefusal) -> Result<(), AllocError> {
-    connection.output().extend_from_slice(refusal.answer())?;
+    connection.output.extend_from_slice(refusal.answer())?;
     connection.doing = Doing::Asks;
-    connection.leaves();
+    connection.is_leaving = true;
     Ok(())
-}
-
-/// A head to which another piece has come.
-fn grow(mut head: Vec<u8>, piece: &[u8]) -> Result<Head, AllocError> {
-    let seen = head.len();
-    head.extend_from_slice(piece)?;
-    if matches!(head.first(), Some(b'\r' | b'\n')) {
-        return Ok(Head::Refused(RequestRefusal::BadRequest));
-    }
-    if let Some(end) = end_of_head(head.as_slice(), seen) {
-        head.truncate(end);
-        return Ok(Head::Whole(head, end.saturating_sub(seen)));
-    }
-    if head.len() >= MOST_HEAD_BYTES {
-        return Ok(Head::Refused(RequestRefusal::HeadTooLarge));
-    }
-    Ok(Head::Part(head))
 }

@@ -5,13 +5,9 @@ ghost use Rattle.relay_watching.specs.Progress.{WasSent, after_write, offered};
 ghost use Rattle.relay_watching.specs.Promised.{Joining};
 ghost use Rattle.watch_port.specs.Connections.{HasWrittenOutput, HasWrittenTape, has_no_output, is_next, is_tapes_turn, is_within, output_left, watched};
 
-use relay_frames::{Event, Peer};
+use relay_frames::{Code, MOST_OUTPUT, Peer, outgoing};
 use relay_watching::{SpectatorConnection, Tape};
 use std::alloc::{AllocError, Global};
-use std::mem;
-
-/// How many bytes of answers may be kept for a connection before it is no longer heard.
-const MOST_OUTPUT: usize = 16384;
 
 /// What a connection does.
 #[derive(Drop)]
@@ -62,13 +58,15 @@ impl Watching {
 #[derive(Drop)]
 pub(crate) struct WatchConnection {
     alloc: Global,
-    peer: Peer,
+    /// What it says, once it has shaken hands.
+    pub(crate) peer: Peer,
     pub(crate) doing: Doing,
-    output: Vec<u8>,
+    /// Whole frames, to which others may be added.
+    pub(crate) output: Vec<u8>,
     /// How many bytes of the output are written.
     written: usize,
-    /// Whether nothing more is written after the output.
-    is_leaving: bool,
+    /// Whether nothing more is written after the output, whose last frame is a close, or which ends the handshake.
+    pub(crate) is_leaving: bool,
 }
 
 impl WatchConnection {
@@ -101,31 +99,6 @@ impl WatchConnection {
         });
     }
 
-    /// It watches all boards from now on, and has not been sent any of them yet.
-    pub(crate) fn watch_all(&mut self) {
-        self.doing = Doing::WatchesAll(0);
-    }
-
-    /// It no longer watches anything. Returns what it did.
-    pub(crate) fn watch_no_more(&mut self) -> Doing {
-        mem::replace(&mut self.doing, Doing::Asks)
-    }
-
-    /// Feeds it what came after its request.
-    pub(crate) fn feed(&mut self, bytes: &[u8]) -> Result<(), AllocError> {
-        self.peer.feed(bytes)
-    }
-
-    /// What it said next, if that has come completely.
-    pub(crate) fn next(&mut self) -> Result<Option<Event>, AllocError> {
-        self.peer.next()
-    }
-
-    /// Whether it is in the middle of a message.
-    pub(crate) fn is_midway(&self) -> bool {
-        self.peer.is_midway()
-    }
-
     /// Whether nothing has been written yet of what it watches. Of all boards there have been `changes` changes.
     pub(crate) fn is_owed_first(&self, changes: u64) -> bool {
         match &self.doing {
@@ -140,19 +113,11 @@ impl WatchConnection {
         self.output.len() > MOST_OUTPUT
     }
 
-    /// The output, to which whole frames may be added.
-    pub(crate) fn output(&mut self) -> &mut Vec<u8> {
-        &mut self.output
-    }
-
-    /// Nothing is to be written after the output, whose last frame is a close, or which ends the handshake.
-    pub(crate) fn leaves(&mut self) {
+    /// Puts a close with this code behind its output, after which it leaves.
+    pub(crate) fn close(&mut self, code: Code) -> Result<(), AllocError> {
+        outgoing::close(Some(code), &mut self.output)?;
         self.is_leaving = true;
-    }
-
-    /// Whether nothing is to be written after the output.
-    pub(crate) fn is_leaving(&self) -> bool {
-        self.is_leaving
+        Ok(())
     }
 
     /// Whether the tape of what it watches comes next, and not output.

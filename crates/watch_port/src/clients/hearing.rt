@@ -2,12 +2,11 @@
 
 use crate::clients::Clients;
 use crate::request::take_request;
-use crate::watch_connection::Doing;
 use c960_game::Refusal;
 use relay_core::{Reply, Step};
 use relay_frames::{Breach, Event, outgoing};
 use relay_messages::{Answer, MessageFault, WatchCommand, encode};
-use server_loop::{Intake, receive};
+use server_loop::{Intake, Stage, receive};
 use std::alloc::AllocError;
 use std::mem;
 
@@ -51,43 +50,38 @@ impl<'a> Clients<'a> {
         }
     }
 
-    /// Reads what a client sends, for a while, and answers it. A piece that is not full was the last of what had come, except for the end:
-    /// the system reports everything that comes later.
+    /// Reads what a client sends, for a while, and answers it.
     fn hear(&mut self, key: usize, may_have_ended: bool) {
-        let mut piece = [0; PIECE_BYTES];
-        let mut was_last = false;
-        if self.answer(key).is_err() {
+        let Some(was_last) = self.read(key, may_have_ended) else {
             self.remove(key);
             return;
+        };
+        self.send(key);
+        if !was_last {
+            self.stands_unread(key);
         }
+    }
+
+    /// Reads and answers it, unless the client goes. Returns whether nothing more is to be read now. A piece that is not full was the last
+    /// of what had come, except for the end: the system reports everything that comes later.
+    fn read(&mut self, key: usize, may_have_ended: bool) -> Option<bool> {
+        let mut piece = [0; PIECE_BYTES];
+        let mut was_last = false;
+        self.answer(key).ok()?;
         for _ in 0..MOST_PIECES {
             if self.is_deaf_to(key) || was_last {
-                self.send(key);
-                return;
+                return Some(true);
             }
-            let Some(client) = self.clients.get_mut(key) else {
-                return;
-            };
-            match receive(&mut client.stream, &mut piece) {
-                Intake::Nothing => {
-                    self.send(key);
-                    return;
-                }
-                Intake::End | Intake::Failed => {
-                    self.remove(key);
-                    return;
-                }
+            match receive(&mut self.clients.get_mut(key)?.stream, &mut piece) {
+                Intake::Nothing => return Some(true),
+                Intake::End | Intake::Failed => return None,
                 Intake::Bytes(n) => {
-                    if self.take_in(key, piece.get(..n).unwrap_or(&[])).is_err() {
-                        self.remove(key);
-                        return;
-                    }
+                    self.take_in(key, piece.get(..n).unwrap_or(&[])).ok()?;
                     was_last = n < PIECE_BYTES && !may_have_ended;
                 }
             }
         }
-        self.send(key);
-        self.stands_unread(key);
+        Some(false)
     }
 
     /// Answers what a client sent.
@@ -95,26 +89,21 @@ impl<'a> Clients<'a> {
         let Some(client) = self.clients.get_mut(key) else {
             return Ok(());
         };
-        if client.is_draining || client.connection.is_leaving() {
+        if client.is_draining || client.connection.is_leaving {
             return Ok(());
         }
-        let used = take_request(self.alloc, &mut client.connection, bytes)?;
+        let used = take_request(&mut client.connection, bytes)?;
         if used > 0 {
             client.turn_away_if_full(self.now)?;
         }
-        client.connection.feed(bytes.get(used..).unwrap_or(&[]))?;
+        let rest = bytes.get(used..).unwrap_or(&[]);
+        client.connection.peer.feed(rest)?;
         self.answer(key)?;
-        self.has_heard(key);
-        Ok(())
-    }
-
-    /// Something came from a client, and was answered.
-    fn has_heard(&mut self, key: usize) {
-        let now = self.now;
         if let Some(client) = self.clients.get_mut(key) {
-            let is_midway = client.connection.is_midway();
-            client.deadlines.silence.hears(now, is_midway);
+            let is_midway = client.connection.peer.is_midway();
+            client.deadlines.silence.hears(self.now, is_midway);
         }
+        Ok(())
     }
 
     /// Whether a client is not heard now, because too much is kept for it, or because it is still owed what it has to be sent first. It is
@@ -149,7 +138,7 @@ impl<'a> Clients<'a> {
         self.is_owed_first(key)
     }
 
-    /// Answers what a client has said, until it is owed what it has to be sent first.
+    /// Answers what a client has said, until it is owed what it has to be sent first. With a complete message its time begins again.
     fn answer(&mut self, key: usize) -> Result<(), AllocError> {
         for _ in 0..u64::MAX {
             if self.stays_owed_first(key) {
@@ -158,124 +147,79 @@ impl<'a> Clients<'a> {
             let Some(client) = self.clients.get_mut(key) else {
                 return Ok(());
             };
-            if client.is_draining || client.connection.is_leaving() {
+            if client.is_draining || client.connection.is_leaving {
                 return Ok(());
             }
-            let Some(event) = client.connection.next()? else {
+            let Some(event) = client.connection.peer.next()? else {
                 return Ok(());
             };
+            if matches!(event, Event::Text(_) | Event::Binary(_)) {
+                client.deadlines.begins(self.now);
+                client.deadlines.silence.owes_no_rest();
+            }
             self.answer_one(key, &event)?;
         }
         Ok(())
     }
 
-    /// Answers one thing that a client said.
+    /// Answers one thing that a client said. A message of one that watches is refused, and a binary one is never a command. After a close
+    /// the client leaves.
     fn answer_one(&mut self, key: usize, event: &Event) -> Result<(), AllocError> {
-        if matches!(event, Event::Text(_) | Event::Binary(_)) {
-            self.has_said(key);
-        }
-        match event {
-            Event::Text(text) => self.answer_text(key, text.as_str()),
-            Event::Binary(_) => self.answer_binary(key),
-            Event::Broken(Breach::TooLong) => {
-                self.put_answer(key, &Answer::Fault(MessageFault::BadField))?;
-                self.put_event(key, event)
+        let answer = match event {
+            Event::Text(_) | Event::Binary(_) if self.is_watching(key) => {
+                Some(refused(Refusal::WrongMode))
             }
-            _ => self.put_event(key, event),
-        }
-    }
-
-    /// A client has sent something complete: its time begins again.
-    fn has_said(&mut self, key: usize) {
-        let now = self.now;
-        if let Some(client) = self.clients.get_mut(key) {
-            client.deadlines.begins(now);
-            client.deadlines.silence.owes_no_rest();
-        }
-    }
-
-    /// Answers a text: a command to follow if nothing is watched yet; otherwise with a refusal or a fault.
-    fn answer_text(&mut self, key: usize, text: &str) -> Result<(), AllocError> {
-        if self.is_watching(key) {
-            return self.put_answer(key, &Answer::Reply(Reply::Refused(Refusal::WrongMode)));
-        }
-        match self.decoder.decode_watch(text.as_bytes()) {
-            Ok(WatchCommand::Boards) => self.watch_all(key),
-            Ok(WatchCommand::Step(step)) => self.answer_step(key, &step),
-            Err(fault) => self.put_answer(key, &Answer::Fault(fault)),
-        }
-    }
-
-    /// Lets a client watch all boards from now on.
-    fn watch_all(&mut self, key: usize) -> Result<(), AllocError> {
-        self.take_in_events();
-        self.list.refresh(&self.boards, self.now)?;
-        if let Some(client) = self.clients.get_mut(key) {
-            client.connection.watch_all();
-            self.list_count = self.list_count.saturating_add(1);
-        }
-        Ok(())
-    }
-
-    /// Answers a command: one to follow, or any other with a refusal.
-    fn answer_step(&mut self, key: usize, step: &Step) -> Result<(), AllocError> {
-        let refusal = match *step {
-            Step::Follow(_, board, from) => self.follow(key, &board, from)?,
-            _ => Some(Refusal::WrongMode),
+            Event::Text(text) => self.answer_text(key, text.as_str())?,
+            Event::Binary(_) => Some(Answer::Fault(MessageFault::NotJson)),
+            Event::Broken(Breach::TooLong) => Some(Answer::Fault(MessageFault::BadField)),
+            _ => None,
         };
-        match refusal {
-            Some(refusal) => self.put_answer(key, &Answer::Reply(Reply::Refused(refusal))),
-            None => Ok(()),
-        }
-    }
-
-    /// Answers a binary message.
-    fn answer_binary(&mut self, key: usize) -> Result<(), AllocError> {
-        let answer = if self.is_watching(key) {
-            Answer::Reply(Reply::Refused(Refusal::WrongMode))
-        } else {
-            Answer::Fault(MessageFault::NotJson)
-        };
-        self.put_answer(key, &answer)
-    }
-
-    /// Whether a client watches a board.
-    fn is_watching(&self, key: usize) -> bool {
-        match self.clients.get(key) {
-            Some(client) => {
-                matches!(
-                    client.connection.doing,
-                    Doing::Watches(_) | Doing::WatchesAll(_)
-                )
-            }
-            None => false,
-        }
-    }
-
-    /// Puts the frame of an answer into a client's output.
-    fn put_answer(&mut self, key: usize, answer: &Answer) -> Result<(), AllocError> {
-        let text = encode(self.alloc, answer)?;
-        match self.clients.get_mut(key) {
-            Some(client) => outgoing::text(text.as_str(), client.connection.output()),
-            None => Ok(()),
-        }
-    }
-
-    /// Puts into a client's output the frame that is due for what it said, if there is one. After a close it leaves.
-    fn put_event(&mut self, key: usize, event: &Event) -> Result<(), AllocError> {
         let frame = event.answer(self.alloc)?;
         let Some(client) = self.clients.get_mut(key) else {
             return Ok(());
         };
+        let connection = &mut client.connection;
+        if let Some(answer) = answer {
+            let text = encode(self.alloc, &answer)?;
+            outgoing::text(text.as_str(), &mut connection.output)?;
+        }
         if let Some(frame) = frame {
-            client
-                .connection
-                .output()
-                .extend_from_slice(frame.as_slice())?;
+            connection.output.extend_from_slice(frame.as_slice())?;
         }
-        if event.is_last() {
-            client.connection.leaves();
-        }
+        connection.is_leaving = connection.is_leaving || event.is_last();
         Ok(())
     }
+
+    /// Does what a text of a client that watches nothing asks for. Returns the answer, unless that is what the client is sent from then on.
+    fn answer_text(&mut self, key: usize, text: &str) -> Result<Option<Answer>, AllocError> {
+        match self.decoder.decode_watch(text.as_bytes()) {
+            Ok(WatchCommand::Boards) => {
+                self.watch_all(key)?;
+                Ok(None)
+            }
+            Ok(WatchCommand::Step(step)) => self.answer_step(key, &step),
+            Err(fault) => Ok(Some(Answer::Fault(fault))),
+        }
+    }
+
+    /// Follows a board, if that is the command. Returns the refusal, if it is another, or if that is refused.
+    fn answer_step(&mut self, key: usize, step: &Step) -> Result<Option<Answer>, AllocError> {
+        match *step {
+            Step::Follow(_, board, from) => Ok(self.follow(key, &board, from)?.map(refused)),
+            _ => Ok(Some(refused(Refusal::WrongMode))),
+        }
+    }
+
+    /// Whether a client watches a board, or all of them.
+    fn is_watching(&self, key: usize) -> bool {
+        match self.clients.get(key) {
+            Some(client) => client.stage() == Stage::Follows,
+            None => false,
+        }
+    }
+}
+
+/// The answer to a command that is refused.
+fn refused(refusal: Refusal) -> Answer {
+    Answer::Reply(Reply::Refused(refusal))
 }

@@ -1,34 +1,21 @@
 //! What happens to clients as time passes, and when serving ends.
 
-use crate::audience::{drop_empty, tape_at};
+use crate::audience::tape_at;
 use crate::clients::Clients;
 use relay_frames::{Code, outgoing};
 use server_loop::{Stage, Times, Verdict};
 
-/// The close code if serving ends, or if a client asks for nothing (RFC 6455, section 7.4.1).
-const AWAY: u16 = 1001;
-
-/// The close code for a client that takes nothing (RFC 6455, section 7.4.1).
-const POLICY: u16 = 1008;
-
 impl<'a> Clients<'a> {
-    /// How many seconds had passed at the last call of `is_now`.
-    pub(crate) fn now(&self) -> u64 {
-        self.now
-    }
-
-    /// This many seconds have passed.
-    pub(crate) fn is_now(&mut self, now: u64) {
-        self.now = now;
-    }
-
-    /// Looks at each client, once a second. Returns whether that was now. All that clients had sent by the second `now` has been heard.
+    /// Looks at each client, once a second, and drops the audiences that have been empty for about a second, and their tapes with them. If
+    /// an audience were dropped at once, its tape would be made again for each spectator of a board whose spectators come and go one after
+    /// another. Returns whether that was now. All that clients had sent by the second `now` has been heard.
     pub(crate) fn look_around(&mut self, now: u64) -> bool {
         if now <= self.looked_at {
             return false;
         }
         self.looked_at = now;
-        drop_empty(&mut self.audiences, self.now);
+        let passed = self.now;
+        self.audiences.retain(|_, audience| audience.count > 0 || audience.left_at >= passed);
         for key in 0..self.clients.capacity() {
             self.look_at(key, now);
         }
@@ -36,8 +23,9 @@ impl<'a> Clients<'a> {
     }
 
     /// Does what is due for a client.
+    #[tactic(auto, unfolding(relay_frames::specs::Codes::may_be_sent))]
     fn look_at(&mut self, key: usize, now: u64) {
-        let most_idle = self.port.most_idle();
+        let most_idle = self.port.most_idle;
         let Some(client) = self.clients.get_mut(key) else {
             return;
         };
@@ -49,36 +37,35 @@ impl<'a> Clients<'a> {
             Verdict::Stays => {}
             Verdict::Ping => self.ping(key),
             Verdict::Tries => self.send(key),
-            Verdict::Idle => self.close(key, AWAY),
-            Verdict::Stuck => self.close(key, POLICY),
+            Verdict::Idle => self.close(key, Code::AWAY),
+            Verdict::Stuck => self.close(key, Code::POLICY),
             Verdict::Gone => self.remove(key),
         }
     }
 
     /// Sends a client a ping.
     fn ping(&mut self, key: usize) {
-        if let Some(client) = self.clients.get_mut(key) {
-            if outgoing::ping(b"", client.connection.output()).is_err() {
-                self.remove(key);
-                return;
-            }
+        let Some(client) = self.clients.get_mut(key) else {
+            return;
+        };
+        match outgoing::ping(b"", &mut client.connection.output) {
+            Ok(()) => self.send(key),
+            Err(_) => self.remove(key),
         }
-        self.send(key);
     }
 
     /// Closes a client's connection with a code.
-    fn close(&mut self, key: usize, code: u16) {
-        if let Some(client) = self.clients.get_mut(key) {
-            if client.connection.is_leaving() {
-                return;
-            }
-            if outgoing::close(Code::new(code), client.connection.output()).is_err() {
-                self.remove(key);
-                return;
-            }
-            client.connection.leaves();
+    fn close(&mut self, key: usize, code: Code) {
+        let Some(client) = self.clients.get_mut(key) else {
+            return;
+        };
+        if client.connection.is_leaving {
+            return;
         }
-        self.send(key);
+        match client.connection.close(code) {
+            Ok(()) => self.send(key),
+            Err(_) => self.remove(key),
+        }
     }
 
     /// Serving ends: clients that ask for nothing are told so, and so are those that watch a board whose game goes on.
@@ -89,24 +76,20 @@ impl<'a> Clients<'a> {
     }
 
     /// Tells a client that serving ends.
+    #[tactic(auto, unfolding(relay_frames::specs::Codes::may_be_sent))]
     fn end_one(&mut self, key: usize) {
         let Some(client) = self.clients.get(key) else {
             return;
         };
-        let is_over = match tape_at(&self.audiences, client.connection.audience()) {
-            Some(tape) => tape.is_over(),
-            None => false,
-        };
+        let tape = tape_at(&self.audiences, client.connection.audience());
+        let is_over = tape.is_some_and(|tape| tape.is_over());
         match client.stage() {
             Stage::Comes => self.remove(key),
-            Stage::Asks => self.close(key, AWAY),
-            Stage::Follows if !is_over => {
-                if self.put_changes(key, true).is_err() {
-                    self.remove(key);
-                } else {
-                    self.close(key, AWAY);
-                }
-            }
+            Stage::Asks => self.close(key, Code::AWAY),
+            Stage::Follows if !is_over => match self.put_changes(key, true) {
+                Ok(()) => self.close(key, Code::AWAY),
+                Err(_) => self.remove(key),
+            },
             Stage::Follows | Stage::Leaves | Stage::Drains => {}
         }
     }

@@ -2,35 +2,42 @@
 
 use crate::audience::Audience;
 use crate::clients::Clients;
-use crate::ready_list::ready_of;
 use crate::watch_connection::{Doing, Watching};
 use c960_game::Refusal;
 use relay_core::BoardName;
+use slab::Slab;
 use std::alloc::AllocError;
+use std::mem;
+
+/// Those that are written to as soon as there is news of what a connection watches, if it watches anything.
+fn ready_of<'r>(
+    audiences: &'r mut Slab<Audience>,
+    list_ready: &'r mut Vec<usize>,
+    doing: &Doing,
+) -> Option<&'r mut Vec<usize>> {
+    match doing {
+        Doing::Watches(watching) => Some(&mut audiences.get_mut(watching.audience)?.ready),
+        Doing::WatchesAll(_) => Some(list_ready),
+        Doing::Comes(_) | Doing::Asks => None,
+    }
+}
 
 impl<'a> Clients<'a> {
-    /// The audience of a board, if it has one.
-    fn audience_of(&self, board: usize) -> Option<usize> {
-        for (at, audience) in self.audiences.iter() {
-            if audience.board == board {
-                return Some(at);
-            }
-        }
-        None
-    }
-
-    /// The audience of a board, perhaps a new one, or none if there is no such board.
+    /// The audience of a board, perhaps a new one, or none if there is no such board. An empty one is kept for a while from now on.
     fn find(&mut self, name: &BoardName) -> Result<Option<usize>, AllocError> {
         let Some(board) = self.boards.find(name) else {
             return Ok(None);
         };
-        if let Some(at) = self.audience_of(board) {
-            return Ok(Some(at));
+        for at in 0..self.audiences.capacity() {
+            if let Some(audience) = self.audiences.get_mut(at) {
+                if audience.board == board {
+                    audience.left_at = self.now;
+                    return Ok(Some(at));
+                }
+            }
         }
-        match self.audiences.insert(Audience::new(self.alloc, board)) {
-            Ok(at) => Ok(Some(at)),
-            Err(_) => Err(AllocError),
-        }
+        let audience = Audience::new(self.alloc, board, self.now);
+        Ok(Some(self.audiences.insert(audience)?))
     }
 
     /// Lets a client follow a board from a place of its log, or from its present length, or refuses.
@@ -45,21 +52,6 @@ impl<'a> Clients<'a> {
         let Some(at) = self.find(name)? else {
             return Ok(Some(Refusal::NoSuchBoard));
         };
-        self.count_one_more(at);
-        let joined = self.join(key, at, from);
-        if !matches!(joined, Ok(None)) {
-            self.count_one_less(at);
-        }
-        joined
-    }
-
-    /// Lets a client join an audience, in which it is already counted.
-    fn join(
-        &mut self,
-        key: usize,
-        at: usize,
-        from: Option<u16>,
-    ) -> Result<Option<Refusal>, AllocError> {
         self.tell(at)?;
         let Some(audience) = self.audiences.get_mut(at) else {
             return Ok(Some(Refusal::NoSuchBoard));
@@ -68,29 +60,25 @@ impl<'a> Clients<'a> {
             return Ok(Some(Refusal::NoSuchBoard));
         };
         let length = u16::try_from(audience.tape.len()).unwrap_or(u16::MAX);
-        let place = from.unwrap_or(length);
-        let Some(spectator) = audience.join(board, place)? else {
+        let Some(spectator) = audience.join(board, from.unwrap_or(length))? else {
             return Ok(Some(Refusal::NotYet));
         };
         if let Some(client) = self.clients.get_mut(key) {
             client.connection.watch(at, spectator);
+            audience.count = audience.count.saturating_add(1);
         }
         Ok(None)
     }
 
-    /// Counts one more in an audience.
-    fn count_one_more(&mut self, at: usize) {
-        if let Some(audience) = self.audiences.get_mut(at) {
-            audience.count = audience.count.saturating_add(1);
+    /// Lets a client watch all boards from now on.
+    pub(super) fn watch_all(&mut self, key: usize) -> Result<(), AllocError> {
+        self.take_in_events();
+        self.list.refresh(&self.boards, self.now)?;
+        if let Some(client) = self.clients.get_mut(key) {
+            client.connection.doing = Doing::WatchesAll(0);
+            self.list_count = self.list_count.saturating_add(1);
         }
-    }
-
-    /// Counts one less in an audience.
-    fn count_one_less(&mut self, at: usize) {
-        if let Some(audience) = self.audiences.get_mut(at) {
-            audience.count = audience.count.saturating_sub(1);
-            audience.left_at = self.now;
-        }
+        Ok(())
     }
 
     /// A client no longer watches anything.
@@ -99,9 +87,13 @@ impl<'a> Clients<'a> {
         let Some(client) = self.clients.get_mut(key) else {
             return;
         };
-        let doing = client.connection.watch_no_more();
-        match doing {
-            Doing::Watches(Watching { audience, .. }) => self.count_one_less(audience),
+        match mem::replace(&mut client.connection.doing, Doing::Asks) {
+            Doing::Watches(Watching { audience, .. }) => {
+                if let Some(audience) = self.audiences.get_mut(audience) {
+                    audience.count = audience.count.saturating_sub(1);
+                    audience.left_at = self.now;
+                }
+            }
             Doing::WatchesAll(_) => self.list_count = self.list_count.saturating_sub(1),
             Doing::Comes(_) | Doing::Asks => {}
         }
@@ -119,13 +111,14 @@ impl<'a> Clients<'a> {
         let Some(ready) = ready_of(&mut self.audiences, &mut self.list_ready, doing) else {
             return;
         };
-        match ready.add(key) {
-            Ok(index) => client.ready_index = Some(index),
+        let index = ready.len();
+        match ready.push(key) {
+            Ok(()) => client.ready_index = Some(index),
             Err(_) => self.remove(key),
         }
     }
 
-    /// Removes a client from those.
+    /// Removes a client from those. The last of them takes its index.
     pub(super) fn leaves_ready(&mut self, key: usize) {
         let Some(client) = self.clients.get_mut(key) else {
             return;
@@ -137,7 +130,10 @@ impl<'a> Clients<'a> {
         let Some(ready) = ready_of(&mut self.audiences, &mut self.list_ready, doing) else {
             return;
         };
-        if let Some(moved) = ready.remove(index) {
+        if index < ready.len() {
+            let _ = ready.swap_remove(index);
+        }
+        if let Some(moved) = ready.get(index).copied() {
             if let Some(other) = self.clients.get_mut(moved) {
                 other.ready_index = Some(index);
             }

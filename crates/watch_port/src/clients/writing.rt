@@ -2,7 +2,6 @@
 
 use crate::audience::tape_at;
 use crate::clients::Clients;
-use crate::ready_list::ReadyList;
 use crate::watch_connection::Doing;
 use server_loop::Delivery;
 use std::alloc::AllocError;
@@ -48,7 +47,7 @@ impl<'a> Clients<'a> {
         if told == changes || !(are_last || client.connection.has_no_output()) {
             return Ok(());
         }
-        self.list.put_changes(told, client.connection.output())?;
+        self.list.put_changes(told, &mut client.connection.output)?;
         client.connection.doing = Doing::WatchesAll(changes);
         Ok(())
     }
@@ -75,9 +74,17 @@ impl<'a> Clients<'a> {
         };
         if client.is_full {
             client.is_full = false;
-            let is_midway = client.connection.is_midway();
+            let is_midway = client.connection.peer.is_midway();
             client.deadlines.silence.is_heard_again(self.now, is_midway);
             self.stands_unread(key);
+        }
+    }
+
+    /// A client was sent everything: it watches nothing more, and its output ends.
+    fn drains(&mut self, key: usize) {
+        self.watches_no_more(key);
+        if let Some(client) = self.clients.get_mut(key) {
+            client.drains(self.now);
         }
     }
 
@@ -86,9 +93,6 @@ impl<'a> Clients<'a> {
         let Some(audience) = self.audiences.get_mut(at) else {
             return Ok(());
         };
-        if audience.count == 0 {
-            return Ok(());
-        }
         let Some(board) = self.boards.board(audience.board) else {
             return Ok(());
         };
@@ -102,36 +106,26 @@ impl<'a> Clients<'a> {
     /// the last of them.
     fn send_to_ready(&mut self, audience: Option<usize>) {
         let mut index = 0usize;
-        for _ in 0..self.ready_count(audience) {
-            let Some(key) = self.ready_at(audience, index) else {
+        for _ in 0..self.ready(audience).len() {
+            let Some(key) = self.ready(audience).get(index).copied() else {
                 return;
             };
             self.send(key);
-            if self.ready_at(audience, index) == Some(key) {
+            if self.ready(audience).get(index).copied() == Some(key) {
                 index = index.saturating_add(1);
             }
         }
     }
 
-    /// The ready ones of an audience, or without one those that watch all boards.
-    fn ready(&self, audience: Option<usize>) -> Option<&ReadyList> {
-        match audience {
-            Some(at) => Some(&self.audiences.get(at)?.ready),
-            None => Some(&self.list_ready),
+    /// The keys of the ready ones of an audience, or without one of those that watch all boards.
+    fn ready(&self, audience: Option<usize>) -> &[usize] {
+        let Some(at) = audience else {
+            return self.list_ready.as_slice();
+        };
+        match self.audiences.get(at) {
+            Some(audience) => audience.ready.as_slice(),
+            None => &[],
         }
-    }
-
-    /// How many of them there are.
-    fn ready_count(&self, audience: Option<usize>) -> usize {
-        match self.ready(audience) {
-            Some(ready) => ready.len(),
-            None => 0,
-        }
-    }
-
-    /// The key of the client at this index among them.
-    fn ready_at(&self, audience: Option<usize>, index: usize) -> Option<usize> {
-        self.ready(audience)?.at(index)
     }
 
     /// Takes in what the loop was told of boards. Without memory for that the boards stay as they are until the next turn.
@@ -142,7 +136,10 @@ impl<'a> Clients<'a> {
     /// Tells clients the news of all boards that are watched. If there is no memory for them, that is tried again in the next turn.
     pub(crate) fn tell_all(&mut self) {
         for at in 0..self.audiences.capacity() {
-            let _ = self.tell(at);
+            let audience = self.audiences.get(at);
+            if audience.is_some_and(|audience| audience.count > 0) {
+                let _ = self.tell(at);
+            }
         }
         let _ = self.tell_list();
     }
