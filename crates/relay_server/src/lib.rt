@@ -3,8 +3,8 @@
 //! written to be read against the rules of a session, and has no keys, no grace, no log and no bound on how long a peer may take.
 #![tactic(auto)]
 
+mod board_bell;
 mod ends;
-mod event_count;
 mod follower_source;
 mod gates;
 mod outlet;

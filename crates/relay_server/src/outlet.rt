@@ -1,7 +1,7 @@
 //! A WebSocket as an outlet.
 
-ghost use Rattle.std.specs.Prelude.{◌≡◌, ◌≤◌, IsOk, OnOk};
-ghost use Rattle.relay_pushing.specs.Sending.{Counts, IsCounted};
+ghost use Rattle.std.specs.Prelude.{◌≡◌, IsOk, OnOk};
+ghost use Rattle.relay_pushing.specs.Sending.{Counts};
 ghost use Rattle.tungstenite.specs.Connection.{write_step};
 ghost use Rattle.tungstenite.specs.Content.{text as text_of};
 ghost use Rattle.tungstenite.specs.Socket.{Writes};
@@ -17,14 +17,6 @@ pub(crate) struct SocketOutlet<S> {
     alloc: Global,
     socket: WebSocket<S, NoMask>,
     failures: u64,
-}
-
-/// Whether the read is to be done again: it was interrupted, for example since the process was stopped and goes on.
-fn was_interrupted(done: &Result<Message, Error>) -> bool {
-    match done {
-        Err(Error::Io(error)) => error.kind() == ErrorKind::Interrupted,
-        _ => false,
-    }
 }
 
 impl<S: Read + Write + Drop> SocketOutlet<S> {
@@ -44,33 +36,16 @@ impl<S: Read + Write + Drop> SocketOutlet<S> {
     /// The stream failed or ended, the peer broke the protocol, or there was no memory.
     pub(crate) fn read(&mut self) -> Result<Message, Error> {
         for _ in 0..u64::MAX {
-            let done = self.read_once();
-            if !was_interrupted(&done) {
-                return done;
+            match self.socket.read() {
+                // The process was stopped and goes on, for example.
+                Err(Error::Io(error)) if error.kind() == ErrorKind::Interrupted => {}
+                done => return done,
             }
         }
         Err(Error::AlreadyClosed)
     }
 
-    /// The next message, unless the read was interrupted.
-    fn read_once(&mut self) -> Result<Message, Error> {
-        self.socket.read()
-    }
-
-    /// The fault of a call that ended so. A failure of the stream is counted.
-    fn fault_of(&mut self, error: &Error) -> SendFault
-        ensures kept { self.old.failures ≤ self.new.failures }
-        ensures counted { IsCounted self.old.failures self.new.failures result }
-        ensures rest { self.new ≡ record self.old { failures = self.new.failures } }
-    {
-        if matches!(error, Error::OutOfMemory) {
-            return SendFault::OutOfMemory;
-        }
-        self.failures = self.failures.saturating_add(1);
-        SendFault::Device
-    }
-
-    /// What came of a call that sends.
+    /// What came of a call that sends. A failure of the stream is counted.
     fn sent(&mut self, done: Result<(), Error>) -> Result<(), SendFault>
         ensures ok { OnOk result (IsOk done) }
         ensures counts { Counts self.old.failures self.new.failures result }
@@ -78,22 +53,11 @@ impl<S: Read + Write + Drop> SocketOutlet<S> {
     {
         match done {
             Ok(()) => Ok(()),
-            Err(error) => Err(self.fault_of(&error)),
-        }
-    }
-
-    /// Writes a text.
-    ///
-    /// # Errors
-    ///
-    /// As those of the socket, or there was no memory.
-    fn write(&mut self, text: &str) -> Result<(), Error>
-        ensures written { OnOk result (Writes S.contents self.old.socket self.new.socket (write_step self.old.socket.conn (text_of text.now))) }
-        ensures rest { self.new ≡ record self.old { socket = self.new.socket } }
-    {
-        match Message::text(self.alloc, text) {
-            Ok(message) => self.socket.send(message),
-            Err(_) => Err(Error::OutOfMemory),
+            Err(Error::OutOfMemory) => Err(SendFault::OutOfMemory),
+            Err(_) => {
+                self.failures = self.failures.saturating_add(1);
+                Err(SendFault::Device)
+            }
         }
     }
 
@@ -106,7 +70,10 @@ impl<S: Read + Write + Drop> SocketOutlet<S> {
         ensures written { OnOk result (Writes S.contents self.old.socket self.new.socket (write_step self.old.socket.conn (text_of text.now))) }
         ensures counts { Counts self.old.failures self.new.failures result }
     {
-        let done = self.write(text);
+        let Ok(message) = Message::text(self.alloc, text) else {
+            return Err(SendFault::OutOfMemory);
+        };
+        let done = self.socket.send(message);
         self.sent(done)
     }
 }

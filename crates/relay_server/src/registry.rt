@@ -2,11 +2,13 @@
 
 ghost use Rattle.relay_server.specs.Shared.{IsKnown, IsMade};
 
-use crate::event_count::EventCount;
+use crate::board_bell::BoardBell;
 use c960_game::Limits;
 use relay_core::{BoardName, Reply, Step};
 use relay_hall::{Hall, Handed, Owner};
+use relay_pushing::Bell;
 use std::alloc::{AllocError, Global};
+use std::sync::atomic::AtomicU64;
 use std::sync::{Mutex, Wait};
 
 /// A hall behind a lock, and a bell for each board that it may have. The lock is taken for each question and each step. While it is held no
@@ -14,8 +16,8 @@ use std::sync::{Mutex, Wait};
 #[derive(Drop)]
 pub struct Registry {
     hall: Mutex<Hall>,
-    /// The bells of the boards, in the order of opening.
-    bells: Vec<EventCount>,
+    /// How often the bell of each board was rung, wrapping, in the order of opening.
+    rings: Vec<AtomicU64>,
 }
 
 impl Registry {
@@ -25,13 +27,13 @@ impl Registry {
     ///
     /// There was no memory.
     pub fn new(alloc: Global, limits: Limits) -> Result<Registry, AllocError> {
-        let mut bells = Vec::with_capacity(alloc, usize::from(limits.boards()))?;
+        let mut rings = Vec::with_capacity(alloc, usize::from(limits.boards()))?;
         for _ in 0..limits.boards() {
-            bells.push(EventCount::new())?;
+            rings.push(AtomicU64::new(0))?;
         }
         Ok(Registry {
             hall: Mutex::new(Hall::new(alloc, limits, 0)?),
-            bells,
+            rings,
         })
     }
 
@@ -54,21 +56,21 @@ impl Registry {
         let mut hall = self.hall.lock(rt);
         let made = hall.step(speaker, step);
         if let Some(at) = hall.take_changed() {
-            self.ring(at);
+            if let Some(rings) = self.rings.get(at) {
+                BoardBell { rt, rings }.ring();
+            }
         }
         made
     }
 
-    /// Rings for the board of this index.
-    fn ring(&self, at: usize) {
-        if let Some(bell) = self.bells.get(at) {
-            bell.ring();
-        }
-    }
-
     /// The bell of the board of this name, if there is such a board.
-    pub(crate) fn bell_of<R: Wait>(&self, rt: &R, board: &BoardName) -> Option<&EventCount> {
+    pub(crate) fn bell_of<'a, R: Wait>(
+        &'a self,
+        rt: &'a R,
+        board: &BoardName,
+    ) -> Option<BoardBell<'a, R>> {
         let at = self.hall.lock(rt).place_of(board)?;
-        self.bells.get(at)
+        let rings = self.rings.get(at)?;
+        Some(BoardBell { rt, rings })
     }
 }

@@ -3,8 +3,8 @@
 ghost use Rattle.std.specs.Prelude.{◌≡◌, IfOk, OnOk, option_map, string_bytes};
 ghost use Rattle.relay_server.specs.Talking.{IsAnswer, IsAnswered, IsPushed, session_end};
 
+use crate::board_bell::BoardBell;
 use crate::ends::SessionEnd;
-use crate::event_count::BoardBell;
 use crate::follower_source::FollowerSource;
 use crate::outlet::SocketOutlet;
 use crate::registry::Registry;
@@ -47,9 +47,8 @@ pub fn session<R: Wait, S: Read + Write + Drop, G: Gate>(
         conn: Conn::new(alloc),
         keeper: SharedKeeper::new(rt, registry, connection),
         outlet: SocketOutlet::new(alloc, socket),
-        gate,
+        gate: Some(gate),
         connection,
-        has_begun: false,
     };
     let end = talk.run();
     talk.finish();
@@ -74,10 +73,9 @@ struct Talk<'a, 'g, R, S, G> {
     conn: Conn,
     keeper: SharedKeeper<'a, R>,
     outlet: SocketOutlet<S>,
-    gate: &'g G,
+    /// The gate that hears of its first command, until that has come.
+    gate: Option<&'g G>,
     connection: u32,
-    /// Whether its first command has come.
-    has_begun: bool,
 }
 
 impl<R: Wait, S: Read + Write + Drop, G: Gate> Talk<'_, '_, R, S, G> {
@@ -111,16 +109,15 @@ impl<R: Wait, S: Read + Write + Drop, G: Gate> Talk<'_, '_, R, S, G> {
     /// Answers a command, of which the gate hears if it is the first, and pushes what the connection follows then. Returns how the session
     /// ended, if it did.
     fn answer_command(&mut self, text: Option<&[u8]>) -> Option<SessionEnd> {
-        let is_first = !self.has_begun;
-        self.has_begun = true;
-        if is_first {
-            self.gate.before(self.connection);
+        let gate = self.gate.take();
+        if let Some(gate) = gate {
+            gate.before(self.connection);
         }
         if self.answer(text).is_err() {
             return Some(SessionEnd::Failed);
         }
-        if is_first {
-            self.gate.after(self.connection);
+        if let Some(gate) = gate {
+            gate.after(self.connection);
         }
         let handed = self.keeper.take_handed()?;
         Some(self.follow(handed))
@@ -162,7 +159,7 @@ impl<R: Wait, S: Read + Write + Drop, G: Gate> Talk<'_, '_, R, S, G> {
         let registry = self.keeper.registry;
         let mut source = FollowerSource { follower };
         let end = match registry.bell_of(rt, &board) {
-            Some(count) => self.push(&mut source, &BoardBell { rt, count }),
+            Some(bell) => self.push(&mut source, &bell),
             // Each board has a bell.
             None => SessionEnd::Failed,
         };
@@ -174,8 +171,7 @@ impl<R: Wait, S: Read + Write + Drop, G: Gate> Talk<'_, '_, R, S, G> {
     fn push(&mut self, source: &mut FollowerSource, bell: &BoardBell<'_, R>) -> SessionEnd
         ensures { IsPushed source.old result }
     {
-        let rt = self.keeper.rt;
-        let end = push_all(rt, self.alloc, &mut self.outlet, source, bell);
+        let end = push_all(bell.rt, self.alloc, &mut self.outlet, source, bell);
         self.close_after(end)
     }
 
