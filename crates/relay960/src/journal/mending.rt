@@ -81,9 +81,7 @@ fn keep_aside<R: Files<File = File>>(
     torn: &[u8],
 ) -> io::Result<String> {
     for others in 0..MOST_ASIDE {
-        let Ok(aside) = name_of(alloc, path, at, others) else {
-            return Err(io::Error::from(ErrorKind::OutOfMemory));
-        };
+        let aside = name_of(alloc, path, at, others)?;
         match keep(rt, alloc, aside.as_str(), torn) {
             Ok(()) => return Ok(aside),
             Err(error) if error.kind() == ErrorKind::AlreadyExists => {}

@@ -127,14 +127,11 @@ fn open<R: Net>(
     let (mut loops, mut feeds) = (Vec::new(alloc), Vec::new(alloc));
     for _ in 0..asked.threads {
         let (event_loop, feed) = EventLoop::new(rt, alloc, &mut port, limits)?;
-        if loops.push(event_loop).is_err() || feeds.push(feed).is_err() {
-            return Err(io::Error::from(ErrorKind::OutOfMemory));
-        }
+        loops.push(event_loop)?;
+        feeds.push(feed)?;
     }
-    match Arc::new(alloc, port) {
-        Ok(port) => Ok(Watch { port, loops, feeds }),
-        Err(_) => Err(io::Error::from(ErrorKind::OutOfMemory)),
-    }
+    let port = Arc::new(alloc, port)?;
+    Ok(Watch { port, loops, feeds })
 }
 
 /// Why the port at this address, or a loop of it, could not be created.
