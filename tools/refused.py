@@ -209,7 +209,7 @@ class Beside:
 
     def __init__(self, crates, folder, scratch):
         self.crates, self.folder, self.kept = crates, folder, scratch / "libraries"
-        self.lock = threading.Lock()
+        self.lock, self.is_over = threading.Lock(), threading.Event()
 
     def library_of(self, name):
         """A library of statements, which was linked away."""
@@ -239,10 +239,21 @@ class Beside:
         return True
 
     def link_all_away(self):
-        """Links each library away as soon as it is there, until `rt ci` ends: where all proofs are kept that is after seconds."""
-        while not self.has_ended():
+        """Links each library away as soon as it is there, until `rt ci` ends, which is after seconds where all proofs are kept, or until
+        nobody needs one any more."""
+        while not self.has_ended() and not self.is_over.wait(0.2):
             self.proved()
-            time.sleep(0.2)
+
+    @contextlib.contextmanager
+    def linking(self):
+        """Meanwhile libraries are linked away, and none behind it: their folder goes then."""
+        thread = threading.Thread(target=self.link_all_away)
+        thread.start()
+        try:
+            yield
+        finally:
+            self.is_over.set()
+            thread.join()
 
     def has_ended(self):
         return (self.folder / "status").exists()
@@ -256,7 +267,6 @@ def try_beside(crates, folder):
         trial = Trial(crates, scratch, beside.library_of)
         left = [(name, copy) for name, its in edits.items() for copy in copies_of(its, MOST_IN_COPY)]
         choosing = threading.Lock()
-        threading.Thread(target=beside.link_all_away, daemon=True).start()
 
         def next_copy():
             while True:
@@ -269,7 +279,8 @@ def try_beside(crates, folder):
                     if not left or has_ended:
                         return None
                 time.sleep(1)
-        trial.side_by_side(WIDTH_BESIDE, next_copy)
+        with beside.linking():
+            trial.side_by_side(WIDTH_BESIDE, next_copy)
         bad += [f"{edit.key}: not tried, since a crate below is not proved" for _, copy in left for edit in copy.edits]
         return trial.end(bad)
 

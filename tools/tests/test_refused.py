@@ -6,6 +6,8 @@ import shutil
 import signal
 import sys
 import tempfile
+import threading
+import time
 import unittest
 from unittest import mock
 
@@ -192,6 +194,23 @@ class Time(unittest.TestCase):
         with mock.patch.object(refused, "SECONDS_OF_COPY", 1):
             status, _ = refused.ended([sys.executable, "-c", "while True: pass"], "/")
         self.assertIn(status, (-signal.SIGXCPU, -signal.SIGKILL))
+
+
+class Libraries(Scene):
+    def test_they_are_linked_away_until_nobody_needs_one_any_more(self):
+        """Else their folder, which goes then, would be made again by one that is proved later."""
+        made, log = self.folder / "out/rlib/numbers.rlib", self.top / "log"
+        made.mkdir(parents=True)
+        (made / "format").write_text("numbers\n")
+        log.write_text("rt: numbers proved\n")
+        beside = refused.Beside(Crates(self.top), self.top, self.top / "scratch")
+        linked, before = beside.library_of("numbers") / "format", threading.active_count()
+        with beside.linking():
+            until = time.monotonic() + 60
+            while not linked.is_file() and time.monotonic() < until:
+                time.sleep(0.01)
+        self.assertEqual(linked.read_text(), "numbers\n")
+        self.assertEqual(threading.active_count(), before)
 
 
 @unittest.skipIf(shutil.which("rattle") is None, "rattle, a command of the kit, is not on the PATH")
