@@ -11,7 +11,8 @@ ITEM = re.compile(r"( *)(?:#\[.*\] *)?(?:pub(?:\([\w:]+\))? |default |const |uns
 
 @dataclasses.dataclass(frozen=True)
 class Function:
-    """A function, by its path below the crate, and where its text begins and ends, by characters and by lines."""
+    """A function, by its path below the crate, and where its text begins and ends, by characters and by lines. Its attributes above it,
+    one a line, belong to it: the checker may note a goal there."""
     path: str
     start: int
     end: int
@@ -79,6 +80,13 @@ def end_of(lines, first, indent):
     return len(lines) - 1
 
 
+def first_of(lines, at, indent):
+    """The line with which an item begins whose keyword stands in this one."""
+    while at > 0 and lines[at - 1].startswith(indent + "#["):
+        at -= 1
+    return at
+
+
 def header_of(lines, first):
     """The text from a line to the first brace."""
     text = ""
@@ -122,7 +130,8 @@ def functions_of(text, module, types=None):
             if kind == "fn":
                 blocks_here = [it for it, _ in blocks]
                 names = [home_of(blocks_here, module, types), *blocks_here, re.match(r"\s*(\w+)", rest)[1]]
-                found.append(Function("::".join(filter(None, names)), starts[at], starts[last + 1], range(at + 1, last + 2)))
+                first = first_of(lines, at, indent)
+                found.append(Function("::".join(filter(None, names)), starts[first], starts[last + 1], range(first + 1, last + 2)))
                 at = last
             elif last > at:
                 header = header_of(lines, at).split(kind, 1)[1]

@@ -119,6 +119,11 @@ class Reading(Scene):
         self.assertIn("    a\n}", found["shapes::first"])
         self.assertEqual([module_of(it) for it in ("src/lib.rt", "src/main.rt", "src/a/b.rt", "src/a/mod.rt")], ["", "", "a::b", "a"])
 
+    def test_the_attributes_above_a_function_are_lines_of_it(self):
+        text = "use a::b;\n#[inline]\n#[cold]\nfn first() {\n}\n\nimpl Pair {\n    #[inline]\n    fn second() {\n    }\n}\n"
+        found = {it.path: (it.lines, text[it.start:it.end].split("\n")[0].strip()) for it in functions_of(text, "")}
+        self.assertEqual(found, {"first": (range(2, 6), "#[inline]"), "Pair::second": (range(8, 11), "#[inline]")})
+
     def test_an_edit_changes_the_functions_in_which_its_texts_stand(self):
         edit = Edit(self.edit("both", ("        SIDES", "        SIDES + 1"), ("    a: u32,", "    b: u32,"),
                               ("    b: u32,", "    a: u32,"), file="src/shapes.rt"))
