@@ -69,10 +69,13 @@ const createComeback = (own) => {
   }
 
   /** The relay has refused the move that no man makes: it says whether the board is there, is this page's, and is over. */
-  function knocked({ link, attempt: present }, answer) {
+  function knocked(value, answer) {
+    const { link, attempt: present } = value;
     if (Knock.isOurs(answer) || answer.name === "GameOver") {
       present.waits.again();
       look(link, present, answer.name === "GameOver");
+    } else if (answer.name === "OutOfMemory") {
+      tryAgain(value); // It could not say.
     } else if (present.isBack) {
       gone(link, present);
     } else {

@@ -34,7 +34,7 @@ from relay_client.webkit import WebKit
 from relay_client.wire import Wire
 from steps import (WEB, enter, listed, open_table, placement, said, say_end, shows, state, text, to_square, unfold, until_moves,
                    until_state, url, watch)
-from told import Told
+from told import KNOCK, Told
 
 RECORDER = WEB.parent / "apps" / "recorder" / "record.py"
 SEED = 960
@@ -485,6 +485,29 @@ async def try_meanwhile(browser):
         await table.close()
 
 
+async def try_without_memory(browser):
+    """A relay without memory to say how a board stands has not lost it: the page that comes back asks again, and goes on with the game."""
+    async with Told() as relay:
+        table = await browser.open(url("table.html", server=relay.address, board="b1", start=518))
+        await table.click("#opening .main")
+        await relay.hears(cmd="open", board="b1", start=518)
+        await relay.says(reply="opened")
+        await until_state(table, "live")
+        await relay.socket.close()
+        for _ in range(2):
+            await relay.hears(cmd="submit", board="b1", move=KNOCK)
+            await relay.refuses(12, "OutOfMemory")
+            await until_state(table, "lost")
+        await relay.hears(cmd="submit", board="b1", move=KNOCK)
+        await relay.refuses(6, "Illegal")
+        await relay.hears(cmd="follow", board="b1", spectator=0)
+        await relay.says(fen="rnbqkbnr/pppppppp/8/8/8/8/PPPPPPPP/RNBQKBNR w HAha - 0 1", joined=0, reply="following")
+        await gone.until_said(table, "Board b1 goes on.")
+        await until_state(table, "live")
+        assert relay.asked.empty() and not table.faults, table.faults
+        await table.close()
+
+
 STRANGE = ["hello", "", "null", "[]", "7", "{}", '{"reply":"pong"}', '{"reply":"constructor"}', '{"reply":["move"]}',
            '{"cmd":"follow","board":"b1"}', '{"reply":"refused","code":6}', '{"reply":"following","joined":0}',
            '{"fen":"rnbqkbnr/pppppppp/8/8/8/8/PPPPPPPP/RNBQKBNRR w HAha - 0 1","joined":0,"reply":"following"}',
@@ -521,7 +544,7 @@ async def try_strangers(browser):
         await until_state(table, "refused")
         await seer.click("#source .main")
         await relay.hears(cmd="follow", board="b1", spectator=0, **{"from": 0})
-        await relay.says(fen=start_fen(518), joined=0, reply="following")
+        await relay.says(fen="rnbqkbnr/pppppppp/8/8/8/8/PPPPPPPP/RNBQKBNR w HAha - 0 1", joined=0, reply="following")
         await relay.says(move="e4e5", place=0, reply="move")
         await relay.says(move="e2e4", place=0, reply="move")
         await until_moves(seer, 1)
