@@ -5,7 +5,6 @@
 mod backoff;
 mod clock;
 mod deadlines;
-mod event_count;
 mod input;
 mod listener;
 mod log_line;

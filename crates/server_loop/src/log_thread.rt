@@ -1,13 +1,12 @@
 //! The log on standard error. Whoever writes it may be slow, and nobody is to wait for that: a thread of its own writes the lines.
 
-use crate::event_count::EventCount;
 use crate::log_line::LogLine;
 use log::sink::Console;
 use log::{Level, Logged, info};
 use std::alloc::{AllocError, Global};
 use std::mem;
 use std::sync::atomic::{AtomicBool, AtomicU32, AtomicU64, Ordering};
-use std::sync::{Arc, Mutex, Wait};
+use std::sync::{Arc, Condvar, Mutex, Wait};
 use std::thread::{Builder, JoinHandle, Threads};
 use std::time::{Clock, Duration, Instant};
 
@@ -43,6 +42,8 @@ struct Lines {
     kept: Vec<LogLine>,
     /// How many were left out, because too many were waiting or there was no memory.
     left_out: u64,
+    /// Whether no more come.
+    are_last: bool,
 }
 
 impl Lines {
@@ -51,7 +52,13 @@ impl Lines {
         Lines {
             kept: Vec::new(alloc),
             left_out: 0,
+            are_last: false,
         }
+    }
+
+    /// Whether there is nothing to be done for them yet.
+    fn is_quiet(&self) -> bool {
+        self.kept.is_empty() && self.left_out == 0 && !self.are_last
     }
 
     /// Adds a line, or counts it if there is no room. What is reported in any case does not want for room. Returns whether it was added.
@@ -72,19 +79,26 @@ struct Shared {
     /// Whether there is a log.
     is_kept: bool,
     lines: Mutex<Lines>,
-    /// Advanced at each line, and when no more will come.
-    noted: EventCount,
-    /// Whether no more lines come.
-    is_over: AtomicBool,
+    /// Notified at each line, and when no more will come.
+    noted: Condvar,
     /// Whether the last line of a connection that was turned away has yet to be written.
     is_short: AtomicBool,
     counts: Counts,
 }
 
 impl Shared {
-    /// Takes the lines that wait.
-    fn take<R: Wait>(&self, rt: &R) -> Lines {
-        let mut lines = self.lines.lock(rt);
+    /// Waits for lines, but no longer than this, and takes them.
+    fn take<R: Wait + Clock>(&self, rt: &R, most: Option<Duration>) -> Lines {
+        let lines = self.lines.lock(rt);
+        let mut lines = match most {
+            None => self.noted.wait_while(rt, lines, |lines| lines.is_quiet()),
+            Some(most) => {
+                let waited = self
+                    .noted
+                    .wait_timeout_while(rt, lines, most, |lines| lines.is_quiet());
+                waited.0
+            }
+        };
         mem::replace(&mut *lines, Lines::new(self.alloc))
     }
 }
@@ -116,8 +130,7 @@ impl Log {
             alloc,
             is_kept,
             lines: Mutex::new(Lines::new(alloc)),
-            noted: EventCount::new(),
-            is_over: AtomicBool::new(false),
+            noted: Condvar::new(),
             is_short: AtomicBool::new(false),
             counts: Counts {
                 connections: AtomicU64::new(0),
@@ -158,14 +171,14 @@ impl Log {
         if is_short && !is_added {
             shared.is_short.store(false, Ordering::SeqCst);
         }
-        shared.noted.advance();
+        shared.noted.notify_one();
     }
 
     /// Lets the thread write what is left, and joins it.
-    pub fn end<R: Threads>(self, rt: &R) {
+    pub fn end<R: Threads + Wait>(self, rt: &R) {
         let Log { shared, thread } = self;
-        shared.is_over.store(true, Ordering::SeqCst);
-        shared.noted.advance();
+        shared.lines.lock(rt).are_last = true;
+        shared.noted.notify_one();
         if let Some(thread) = thread {
             let () = thread.join(rt);
         }
@@ -189,21 +202,14 @@ where
 fn run<R: Wait + Clock + Eprint>(rt: &R, shared: &Shared) {
     let mut counted_at = Instant::now(rt).ok();
     for _ in rt.forever() {
-        let seen = shared.noted.count();
-        let is_over = shared.is_over.load(Ordering::SeqCst);
-        write_lines(rt, shared);
-        if is_over {
+        let lines = shared.take(rt, until_counts(rt, shared, counted_at));
+        write_lines(rt, shared, &lines);
+        if lines.are_last {
             return;
         }
-        match until_counts(rt, shared, counted_at) {
-            None => {
-                let _ = shared.noted.wait(rt, seen);
-            }
-            Some(Duration::ZERO) => {
-                write_counts(rt, &shared.counts);
-                counted_at = Instant::now(rt).ok();
-            }
-            Some(left) => shared.noted.doze(rt, seen, left),
+        if until_counts(rt, shared, counted_at) == Some(Duration::ZERO) {
+            write_counts(rt, &shared.counts);
+            counted_at = Instant::now(rt).ok();
         }
     }
 }
@@ -222,9 +228,8 @@ fn until_counts<R: Clock>(
     Some(between.saturating_sub(passed))
 }
 
-/// Writes the lines that wait, and one if some were left out. Serving goes on even if standard error is closed.
-fn write_lines<R: Wait + Eprint>(rt: &R, shared: &Shared) {
-    let lines = shared.take(rt);
+/// Writes these lines, and one if some were left out. Serving goes on even if standard error is closed.
+fn write_lines<R: Eprint>(rt: &R, shared: &Shared, lines: &Lines) {
     let log = Logged::new(rt, Level::Info, Console(rt));
     for line in lines.kept.iter() {
         if line.is_of_log() {
