@@ -4,7 +4,7 @@ use mathlib.Core.List.{IsPrefix}
 use Rattle.std.proofs.lemmas.List.{append-nil, append_assoc}
 use Rattle.std.proofs.lemmas.Option.{same_Some}
 use Rattle.watch_port.specs.declared.board_table.BoardCopy.{BoardCopy}
-use Rattle.watch_port.specs.declared.feed.Told.{Told}
+use Rattle.watch_port.specs.declared.board_event.Progress.{Progress}
 use Rattle.watch_port.specs.declared.board_event.BoardEvent.{BoardEvent}
 use Rattle.watch_port.specs.Copies.{HasTaken, TableRecord, changed_at, copied_after, copied_from}
 use Rattle.watch_port.specs.Telling.{told_after, told_by, told_from}
@@ -28,7 +28,7 @@ pub copied_more : (plies : ℕ) (boards : List BoardCopy) (xs : List BoardEvent)
 copied_more plies boards [] x = refl
 copied_more plies boards (y ∷ ys) x = copied_more plies (copied_after plies boards y) ys x
 
-pub told_more : (ts : List Told) (xs : List BoardEvent) (x : BoardEvent) → told_from ts (xs ++ x ∷ []) ≡ told_after (told_from ts xs) x
+pub told_more : (ts : List Progress) (xs : List BoardEvent) (x : BoardEvent) → told_from ts (xs ++ x ∷ []) ≡ told_after (told_from ts xs) x
 told_more ts [] x = refl
 told_more ts (y ∷ ys) x = told_more (told_after ts y) ys x
 
@@ -49,7 +49,7 @@ pub table_more : (plies : ℕ) (old new : List BoardCopy) (told more : List Boar
 table_more plies old new told more x was now is =
     now ∙ ap (λ bs. copied_after plies bs x) was ∙ sym (ap (copied_from plies []) is ∙ copied_more plies [] told x)
 
-pub feed_more : (old new : List Told) (sent more : List BoardEvent) (x : BoardEvent) → old ≡ told_by sent → new ≡ told_after old x → more ≡ sent ++ x ∷ []
+pub feed_more : (old new : List Progress) (sent more : List BoardEvent) (x : BoardEvent) → old ≡ told_by sent → new ≡ told_after old x → more ≡ sent ++ x ∷ []
     → new ≡ told_by more
 feed_more old new sent more x was now is = now ∙ ap (λ ts. told_after ts x) was ∙ sym (ap told_by is ∙ told_more [] sent x)
 

@@ -2,39 +2,39 @@
 use Rattle.std.specs.Prelude.{◌≡◌, ◌==◌, ◌+◌, ℕ, min, Bool, true, false, cond, List, [], ◌∷◌, ◌++◌, length, take, slice_get, Option, Some, None, option_map, unwrap_or}
 use Rattle.c960_game.specs.declared.outcome.Outcome.{Outcome}
 use Rattle.watch_port.specs.declared.feed.BoardUpdate.{BoardUpdate}
-use Rattle.watch_port.specs.declared.feed.Told.{Told}
+use Rattle.watch_port.specs.declared.board_event.Progress.{Progress}
 use Rattle.watch_port.specs.declared.board_event.BoardEvent.{BoardEvent}
 use Rattle.watch_port.specs.declared.board_event.BoardEvent.TheVariants.{Opened, Played, Ended}
 use Rattle.watch_port.specs.Copies.{changed_at}
 
 -- ---- How far a loop was told of boards.
 
-abbrev pub one_more : Told → Told
+abbrev pub one_more : Progress → Progress
 one_more t = record t { moves = min (t.moves + 1) 65535 }
 
-abbrev pub over : Told → Told
+abbrev pub over : Progress → Progress
 over t = record t { is_over = true }
 
 -- one more event was told
-abbrev pub told_after : List Told → BoardEvent → List Told
+abbrev pub told_after : List Progress → BoardEvent → List Progress
 told_after ts (Opened name start) = ts ++ (record { moves = 0; is_over = false }) ∷ []
 told_after ts (Played at m) = changed_at one_more at ts
 told_after ts (Ended at outcome) = changed_at over at ts
 
-abbrev pub told_from : List Told → List BoardEvent → List Told
+abbrev pub told_from : List Progress → List BoardEvent → List Progress
 told_from ts [] = ts
 told_from ts (x ∷ xs) = told_from (told_after ts x) xs
 
 -- how far, of each board, by all that was told
-abbrev pub told_by : List BoardEvent → List Told
+abbrev pub told_by : List BoardEvent → List Progress
 told_by sent = told_from [] sent
 
 -- how many moves of the board of this index, and whether of its end
 abbrev pub moves_told : List BoardEvent → ℕ → ℕ
-moves_told sent at = unwrap_or (option_map (λ (t : Told). t.moves) (slice_get (told_by sent) at)) 0
+moves_told sent at = unwrap_or (option_map (λ (t : Progress). t.moves) (slice_get (told_by sent) at)) 0
 
 abbrev pub is_told_of_the_end : List BoardEvent → ℕ → Bool
-is_told_of_the_end sent at = unwrap_or (option_map (λ (t : Told). t.is_over) (slice_get (told_by sent) at)) false
+is_told_of_the_end sent at = unwrap_or (option_map (λ (t : Progress). t.is_over) (slice_get (told_by sent) at)) false
 
 -- ---- What it lacks.
 

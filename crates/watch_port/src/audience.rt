@@ -1,6 +1,8 @@
 //! The spectators of one board, and the tape that they are sent.
 
-use crate::board_table::{BoardCopy, Progress};
+use crate::board_event::Progress;
+use crate::board_table::BoardCopy;
+use crate::watch_connection::{Doing, WatchConnection};
 use c960_board::Position;
 use relay_watching::{SpectatorConnection, Tape};
 use slab::Slab;
@@ -53,41 +55,54 @@ impl Audience {
         Ok(true)
     }
 
-    /// A connection for a spectator that joins at a place of the tape. There is none if its board has not reached that place.
-    ///
-    /// # Errors
-    ///
-    /// There was no memory.
+    /// A connection for a spectator that joins at a place of the tape, or at its end. There is none if its board has not reached that
+    /// place.
     pub(crate) fn join(
         &mut self,
         board: &BoardCopy,
-        place: u16,
+        from: Option<u16>,
     ) -> Result<Option<SpectatorConnection>, AllocError> {
-        let Some(position) = self.position_at(board, place) else {
-            return Ok(None);
-        };
-        if usize::from(place) > self.tape.len() {
-            return Ok(None);
-        }
-        Ok(Some(self.tape.join(place, &position)?))
-    }
-
-    /// The position at a place. When many spectators arrive at once, they join at the same one.
-    fn position_at(&mut self, board: &BoardCopy, place: u16) -> Option<Position> {
-        if let Some((at, position)) = self.last {
-            if at == place {
-                return Some(position);
+        let length = place_of(self.tape.len());
+        let place = from.unwrap_or(length);
+        match position_at(&mut self.last, board, place) {
+            Some(position) if usize::from(place) <= self.tape.len() => {
+                Ok(Some(self.tape.join(place, &position)?))
             }
+            _ => Ok(None),
         }
-        let position = board.position_at(place)?;
-        self.last = Some((place, position));
-        Some(position)
     }
 }
 
-/// The tape of an audience.
-pub(crate) fn tape_at(audiences: &Slab<Audience>, at: Option<usize>) -> Option<&Tape> {
-    Some(&audiences.get(at?)?.tape)
+/// The position at a place, which is the last that was asked for from then on. When many spectators arrive at once, they join at the same.
+fn position_at(
+    last: &mut Option<(u16, Position)>,
+    board: &BoardCopy,
+    place: u16,
+) -> Option<Position> {
+    if let Some((at, position)) = *last {
+        if at == place {
+            return Some(position);
+        }
+    }
+    let position = board.game.position_at(place)?;
+    *last = Some((place, position));
+    Some(position)
+}
+
+/// The tape of the board that a connection watches, if it watches one.
+pub(crate) fn tape_of<'t>(
+    audiences: &'t Slab<Audience>,
+    connection: &WatchConnection,
+) -> Option<&'t Tape> {
+    match &connection.doing {
+        Doing::Watches(watching) => Some(&audiences.get(watching.audience)?.tape),
+        _ => None,
+    }
+}
+
+/// The place behind so many moves, the last one if there are more.
+fn place_of(moves: usize) -> u16 {
+    u16::try_from(moves).unwrap_or(u16::MAX)
 }
 
 /// Puts on a tape what it lacks of its board: the moves from its length on, and the end.
@@ -96,9 +111,8 @@ pub(crate) fn tape_at(audiences: &Slab<Audience>, at: Option<usize>) -> Option<&
 ///
 /// There was no memory. Some of it may be there.
 fn put_on(tape: &mut Tape, board: &BoardCopy) -> Result<(), AllocError> {
-    let from = u16::try_from(tape.len()).unwrap_or(u16::MAX);
-    for place in from..board.len() {
-        match board.move_at(place) {
+    for place in place_of(tape.len())..board.game.len() {
+        match board.game.move_at(place) {
             Some(m) if !tape.is_over() && tape.len() < 65536 => tape.push(m)?,
             _ => break,
         }

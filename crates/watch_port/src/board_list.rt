@@ -1,6 +1,7 @@
 //! All boards of a relay, for connections that watch them all: the text of each, and when it last changed.
 
-use crate::board_table::{BoardTable, Progress};
+use crate::board_event::Progress;
+use crate::board_table::BoardTable;
 use relay_frames::outgoing;
 use relay_messages::encode_board;
 use std::alloc::{AllocError, Global};
@@ -17,8 +18,8 @@ pub(crate) struct BoardList {
 /// What is sent of a board.
 #[derive(Drop)]
 struct Entry {
-    /// How far the board was when its text was made, once one was.
-    made_of: Option<Progress>,
+    /// How far the board was when its text was made.
+    made_of: Progress,
     /// In which second that was.
     made_at: u64,
     /// The frame of its text.
@@ -30,10 +31,7 @@ struct Entry {
 impl Entry {
     /// Whether its text has to be made again: there is news, and it was not made within this second, or its game has ended.
     fn is_due(&self, progress: Progress, now: u64) -> bool {
-        match self.made_of {
-            None => true,
-            Some(made_of) => made_of != progress && (self.made_at < now || progress.is_over),
-        }
+        self.made_of != progress && (self.made_at < now || progress.is_over)
     }
 }
 
@@ -59,37 +57,36 @@ impl BoardList {
     /// There was no memory. The next call makes what is missing.
     pub(crate) fn refresh(&mut self, boards: &BoardTable, now: u64) -> Result<(), AllocError> {
         for at in 0..boards.len() {
-            if at == self.entries.len() {
-                self.entries.push(Entry {
-                    made_of: None,
-                    made_at: 0,
-                    frame: Vec::new(self.alloc),
-                    change: 0,
-                })?;
-            }
             self.refresh_one(at, boards, now)?;
         }
         Ok(())
     }
 
-    /// Makes the text of the board of this index again, if that is due.
+    /// Makes the text of the board of this index, if there is none yet or it is due again.
     fn refresh_one(&mut self, at: usize, boards: &BoardTable, now: u64) -> Result<(), AllocError> {
-        let (Some(entry), Some(board)) = (self.entries.get_mut(at), boards.board(at)) else {
+        let Some(board) = boards.board(at) else {
             return Ok(());
         };
-        let progress = board.progress();
-        if entry.is_due(progress, now) {
-            let text = encode_board(self.alloc, &board.summary())?;
-            let mut frame = Vec::new(self.alloc);
-            outgoing::text(text.as_str(), &mut frame)?;
-            self.changes = self.changes.saturating_add(1);
-            *entry = Entry {
-                made_of: Some(progress),
-                made_at: now,
-                frame,
-                change: self.changes,
-            };
+        let made_of = board.progress();
+        let entry = self.entries.get(at);
+        if entry.is_some_and(|entry| !entry.is_due(made_of, now)) {
+            return Ok(());
         }
+        let text = encode_board(self.alloc, &board.summary())?;
+        let mut frame = Vec::new(self.alloc);
+        outgoing::text(text.as_str(), &mut frame)?;
+        let change = self.changes.saturating_add(1);
+        let entry = Entry {
+            made_of,
+            made_at: now,
+            frame,
+            change,
+        };
+        match self.entries.get_mut(at) {
+            Some(earlier) => *earlier = entry,
+            None => self.entries.push(entry)?,
+        }
+        self.changes = change;
         Ok(())
     }
 

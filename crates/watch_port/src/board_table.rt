@@ -8,7 +8,7 @@ ghost use Rattle.relay_hall.specs.Reading.{last_of};
 ghost use Rattle.rtrb.specs.Ring.{received};
 ghost use Rattle.watch_port.specs.Copies.{HasTaken, changed_at, copied_after, copy_of, ended_by, nothing_told, played_by, shown_by, summary_of};
 
-use crate::board_event::BoardEvent;
+use crate::board_event::{BoardEvent, Progress};
 use c960_board::{Move, Position};
 use c960_game::{Game, Limits, Outcome};
 use relay_core::BoardName;
@@ -87,35 +87,15 @@ impl BoardCopy {
             outcome: self.outcome,
         }
     }
-
-    /// This move was made. One that is not legal is none: no board has one.
-    fn play(&mut self, m: Move)
-        ensures { self.new ≡ played_by m self.old }
-    {
-        let _ = self.game.play(m);
-    }
-
-    /// The game has ended.
-    fn end(&mut self, outcome: Outcome)
-        ensures { self.new ≡ ended_by outcome self.old }
-    {
-        self.outcome = Some(outcome);
-    }
 }
 
-/// How far a game has come.
-#[derive(Clone, Copy, PartialEq, Eq)]
-pub(crate) struct Progress {
-    moves: u16,
-    pub(crate) is_over: bool,
-}
-
-/// This move was made on the board of this index.
+/// This move was made on the board of this index. One that is not legal is none: no board has one.
 fn play_at(boards: &mut Vec<BoardCopy>, at: usize, m: Move)
     ensures { boards.new.items ≡ changed_at (played_by m) at boards.old.items }
 {
     if at < boards.len() {
-        boards[at].play(m);
+        let board = &mut boards[at];
+        let _ = board.game.play(m);
     }
 }
 
@@ -124,7 +104,7 @@ fn end_at(boards: &mut Vec<BoardCopy>, at: usize, outcome: Outcome)
     ensures { boards.new.items ≡ changed_at (ended_by outcome) at boards.old.items }
 {
     if at < boards.len() {
-        boards[at].end(outcome);
+        boards[at].outcome = Some(outcome);
     }
 }
 

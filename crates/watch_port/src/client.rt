@@ -59,6 +59,11 @@ impl Client {
         }
     }
 
+    /// Whether what it sends is not heard any more.
+    pub(crate) fn says_no_more(&self) -> bool {
+        self.is_draining || self.connection.is_leaving
+    }
+
     /// The stage at which it is.
     pub(crate) fn stage(&self) -> Stage {
         if self.is_draining {

@@ -18,6 +18,9 @@ use server_loop::Deadlines;
 use slab::Slab;
 use std::alloc::Global;
 
+/// Whether a client stays. One goes if its connection has failed or ended, or there is no memory for it.
+type Stays = Option<()>;
+
 /// All connections of a loop. Each is known by its key, which is also the token of its socket.
 #[derive(Drop)]
 pub(crate) struct Clients<'a> {
@@ -101,8 +104,11 @@ impl<'a> Clients<'a> {
         }
     }
 
-    /// A client goes, and its connection with it.
-    pub(crate) fn remove(&mut self, key: usize) {
+    /// A client goes, and its connection with it, unless it stays.
+    fn keep_if(&mut self, stays: Stays, key: usize) {
+        if stays.is_some() {
+            return;
+        }
         self.watches_no_more(key);
         if self.clients.try_remove(key).is_some() {
             self.port.leaves(self.acceptor);

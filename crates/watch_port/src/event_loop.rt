@@ -86,7 +86,7 @@ impl EventLoop {
             clock: LoopClock::begin(rt)?,
             has_newcomers: true,
             heard_by: 0,
-            closes_at: None,
+            ends_at: None,
         };
         for _ in rt.forever() {
             poller.wait(turns.most_wait())?;
@@ -108,14 +108,14 @@ struct Turns<'a> {
     has_newcomers: bool,
     /// Everything that clients had sent by this second has been heard, or is reported in this turn.
     heard_by: u64,
-    /// The second in which the loop ends even if clients remain, once the port closes.
-    closes_at: Option<u64>,
+    /// The second in which the loop ends even if clients remain, once clients were told that the port closes.
+    ends_at: Option<u64>,
 }
 
 impl<'a> Turns<'a> {
     /// How long the next turn waits at most.
     fn most_wait(&self) -> Duration {
-        let has_to_close = self.clients.port.is_closing() && self.closes_at.is_none();
+        let has_to_close = self.clients.port.is_closing() && self.ends_at.is_none();
         if self.has_newcomers || self.clients.has_unread() || has_to_close {
             Duration::ZERO
         } else {
@@ -168,7 +168,7 @@ impl<'a> Turns<'a> {
             WAKER => {}
             Token(key) => {
                 if event.is_writable() {
-                    self.clients.send(key);
+                    self.clients.write_to(key);
                 }
                 if event.is_readable() {
                     self.clients.hear_of(key, event.is_read_closed());
@@ -205,14 +205,10 @@ impl<'a> Turns<'a> {
 
     /// The port closes. Clients are told, and then waited for. Returns whether this is over.
     fn is_over(&mut self, now: u64) -> bool {
-        let closes_at = match self.closes_at {
-            Some(closes_at) => closes_at,
-            None => {
-                self.clients.end();
-                now.saturating_add(MOST_CLOSING_SECONDS)
-            }
-        };
-        self.closes_at = Some(closes_at);
-        self.clients.is_empty() || now >= closes_at
+        if self.ends_at.is_none() {
+            self.clients.end();
+            self.ends_at = Some(now.saturating_add(MOST_CLOSING_SECONDS));
+        }
+        self.clients.is_empty() || self.ends_at.is_some_and(|ends_at| now >= ends_at)
     }
 }

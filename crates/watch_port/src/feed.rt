@@ -4,7 +4,7 @@ ghost use Rattle.std.specs.Prelude.{◌≡◌, ◌<◌, ◌∷◌, ◌++◌, [],
 ghost use Rattle.watch_port.specs.Copies.{changed_at, nothing_told};
 ghost use Rattle.watch_port.specs.Telling.{IsPut, end_of, is_told_of_the_end, moves_told, one_more, opening_of, over, told_after, told_by};
 
-use crate::board_event::BoardEvent;
+use crate::board_event::{BoardEvent, Progress};
 use crate::board_table::BoardTable;
 use c960_board::Move;
 use c960_game::{Limits, Outcome};
@@ -16,31 +16,6 @@ use std::mem;
 
 /// How many events a loop may have yet to take in. What is beyond that it is told later.
 const MOST_EVENTS: usize = 4096;
-
-/// How far a loop was told of a board.
-#[derive(Clone, Copy)]
-pub struct Told {
-    /// How many of its moves.
-    pub moves: u16,
-    /// Whether it was told of the end.
-    pub is_over: bool,
-}
-
-impl Told {
-    /// One more of its moves was told.
-    fn adds_move(&mut self)
-        ensures { self.new ≡ one_more self.old }
-    {
-        self.moves = self.moves.saturating_add(1);
-    }
-
-    /// The end was told.
-    fn ends(&mut self)
-        ensures { self.new ≡ over self.old }
-    {
-        self.is_over = true;
-    }
-}
 
 /// A board of which loops are to be told.
 #[derive(Clone, Copy)]
@@ -61,7 +36,7 @@ pub(crate) struct BoardUpdate<'a> {
 pub struct Feed {
     ring: Producer<BoardEvent, Global>,
     /// How far, of each board that it was told of.
-    told: Vec<Told>,
+    told: Vec<Progress>,
     /// Whether the loop has yet to be woken.
     is_fresh: bool,
 }
@@ -80,12 +55,12 @@ impl Model for Feed {
 }
 
 /// Notes what was put into a ring.
-fn note(told: &mut Vec<Told>, event: &BoardEvent)
+fn note(told: &mut Vec<Progress>, event: &BoardEvent)
     requires { vec_len told.old < vec_capacity told.old }
     ensures { told.new.items ≡ told_after told.old.items event.now }
 {
     match *event {
-        BoardEvent::Opened(_, _) => told.push_reserved(Told {
+        BoardEvent::Opened(_, _) => told.push_reserved(Progress {
             moves: 0,
             is_over: false,
         }),
@@ -95,20 +70,21 @@ fn note(told: &mut Vec<Told>, event: &BoardEvent)
 }
 
 /// Notes that a move was told of the board of this index.
-fn note_move(told: &mut Vec<Told>, at: usize)
+fn note_move(told: &mut Vec<Progress>, at: usize)
     ensures { told.new.items ≡ changed_at one_more at told.old.items }
 {
     if at < told.len() {
-        told[at].adds_move();
+        let board = &mut told[at];
+        board.moves = board.moves.saturating_add(1);
     }
 }
 
 /// Notes that the end was told of the board of this index.
-fn note_end(told: &mut Vec<Told>, at: usize)
+fn note_end(told: &mut Vec<Progress>, at: usize)
     ensures { told.new.items ≡ changed_at over at told.old.items }
 {
     if at < told.len() {
-        told[at].ends();
+        told[at].is_over = true;
     }
 }
 
@@ -134,20 +110,16 @@ impl Feed {
     pub(crate) fn moves_told(&self, at: u16) -> u16
         ensures { result ≡ moves_told self.now at }
     {
-        match self.told.get(usize::from(at)) {
-            Some(told) => told.moves,
-            None => 0,
-        }
+        let told = self.told.get(usize::from(at));
+        told.map_or(0, |told| told.moves)
     }
 
     /// Whether the loop was told how the game of the board of this index ended.
     fn is_told_of_the_end(&self, at: u16) -> bool
         ensures { result ≡ is_told_of_the_end self.now at }
     {
-        match self.told.get(usize::from(at)) {
-            Some(told) => told.is_over,
-            None => false,
-        }
+        let told = self.told.get(usize::from(at));
+        told.map_or(false, |told| told.is_over)
     }
 
     /// Whether the loop was told anything since the last such call.

@@ -70,10 +70,6 @@ impl Publisher {
     }
 
     /// Tells all loops of one board. Returns whether each was told all.
-    ///
-    /// # Errors
-    ///
-    /// There was no memory.
     fn publish_one(&mut self, hall: &Hall, at: u16) -> Result<bool, AllocError> {
         let Some(shown) = hall.board(usize::from(at)) else {
             return Ok(true);

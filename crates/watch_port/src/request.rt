@@ -6,10 +6,6 @@ use std::alloc::AllocError;
 
 /// Takes what came from a connection that sends its request. Returns how many of these bytes belong to the request. The request is answered
 /// once it is complete; if it is refused, the connection leaves.
-///
-/// # Errors
-///
-/// There was no memory.
 pub(crate) fn take_request(
     connection: &mut WatchConnection,
     bytes: &[u8],

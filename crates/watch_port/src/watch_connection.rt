@@ -82,14 +82,6 @@ impl WatchConnection {
         }
     }
 
-    /// The audience that it is in, if it watches a board.
-    pub(crate) fn audience(&self) -> Option<usize> {
-        match &self.doing {
-            Doing::Watches(watching) => Some(watching.audience),
-            _ => None,
-        }
-    }
-
     /// It watches a board from now on.
     pub(crate) fn watch(&mut self, audience: usize, spectator: SpectatorConnection) {
         self.doing = Doing::Watches(Watching {

@@ -1,6 +1,6 @@
 //! What clients say, and what they are answered.
 
-use crate::clients::Clients;
+use crate::clients::{Clients, Stays};
 use crate::request::take_request;
 use c960_game::Refusal;
 use relay_core::{Reply, Step};
@@ -19,8 +19,7 @@ const PIECE_BYTES: usize = 4096;
 impl<'a> Clients<'a> {
     /// Reads the clients that are to be read on.
     pub(crate) fn hear_unread(&mut self) {
-        let unread = mem::replace(&mut self.unread, Vec::new(self.alloc));
-        for key in unread {
+        for key in mem::replace(&mut self.unread, Vec::new(self.alloc)) {
             if let Some(client) = self.clients.get_mut(key) {
                 client.is_unread = false;
                 self.hear(key, true);
@@ -29,137 +28,119 @@ impl<'a> Clients<'a> {
     }
 
     /// Adds a client to those that are to be read on, only once however much it sends.
-    pub(super) fn stands_unread(&mut self, key: usize) {
-        let Some(client) = self.clients.get_mut(key) else {
-            return;
-        };
-        if client.is_unread {
-            return;
+    pub(super) fn stands_unread(&mut self, key: usize) -> Stays {
+        let client = self.clients.get_mut(key)?;
+        if !client.is_unread {
+            self.unread.push(key).ok()?;
+            client.is_unread = true;
         }
-        client.is_unread = true;
-        if self.unread.push(key).is_err() {
-            self.remove(key);
-        }
+        Some(())
     }
 
     /// Reads a client from which, as the system reports, something came, perhaps the end. One that is to be read on has had its turn.
     pub(crate) fn hear_of(&mut self, key: usize, has_ended: bool) {
-        match self.clients.get(key) {
-            Some(client) if !client.is_unread => self.hear(key, has_ended),
-            _ => {}
+        let client = self.clients.get(key);
+        if client.is_some_and(|client| !client.is_unread) {
+            self.hear(key, has_ended);
         }
     }
 
     /// Reads what a client sends, for a while, and answers it.
     fn hear(&mut self, key: usize, may_have_ended: bool) {
-        let Some(was_last) = self.read(key, may_have_ended) else {
-            self.remove(key);
-            return;
-        };
-        self.send(key);
-        if !was_last {
-            self.stands_unread(key);
-        }
+        let heard = self.read(key, may_have_ended);
+        self.keep_if(heard, key);
     }
 
-    /// Reads and answers it, unless the client goes. Returns whether nothing more is to be read now. A piece that is not full was the last
-    /// of what had come, except for the end: the system reports everything that comes later.
-    fn read(&mut self, key: usize, may_have_ended: bool) -> Option<bool> {
+    /// Reads and answers it. A piece that is not full was the last of what had come, except for the end: the system reports everything that
+    /// comes later. A client that may have sent more is read on in the next turn.
+    fn read(&mut self, key: usize, may_have_ended: bool) -> Stays {
         let mut piece = [0; PIECE_BYTES];
         let mut was_last = false;
-        self.answer(key).ok()?;
+        self.answer(key)?;
         for _ in 0..MOST_PIECES {
-            if self.is_deaf_to(key) || was_last {
-                return Some(true);
+            if self.is_deaf_to(key)? || was_last {
+                return self.send(key);
             }
             match receive(&mut self.clients.get_mut(key)?.stream, &mut piece) {
-                Intake::Nothing => return Some(true),
+                Intake::Nothing => return self.send(key),
                 Intake::End | Intake::Failed => return None,
                 Intake::Bytes(n) => {
-                    self.take_in(key, piece.get(..n).unwrap_or(&[])).ok()?;
+                    self.take_in(key, piece.get(..n).unwrap_or(&[]))?;
                     was_last = n < PIECE_BYTES && !may_have_ended;
                 }
             }
         }
-        Some(false)
+        self.send(key)?;
+        self.stands_unread(key)
     }
 
     /// Answers what a client sent.
-    fn take_in(&mut self, key: usize, bytes: &[u8]) -> Result<(), AllocError> {
-        let Some(client) = self.clients.get_mut(key) else {
-            return Ok(());
-        };
-        if client.is_draining || client.connection.is_leaving {
-            return Ok(());
+    fn take_in(&mut self, key: usize, bytes: &[u8]) -> Stays {
+        let client = self.clients.get_mut(key)?;
+        if client.says_no_more() {
+            return Some(());
         }
-        let used = take_request(&mut client.connection, bytes)?;
+        let used = take_request(&mut client.connection, bytes).ok()?;
         if used > 0 {
-            client.turn_away_if_full(self.now)?;
+            client.turn_away_if_full(self.now).ok()?;
         }
         let rest = bytes.get(used..).unwrap_or(&[]);
-        client.connection.peer.feed(rest)?;
+        client.connection.peer.feed(rest).ok()?;
         self.answer(key)?;
-        if let Some(client) = self.clients.get_mut(key) {
-            let is_midway = client.connection.peer.is_midway();
-            client.deadlines.silence.hears(self.now, is_midway);
-        }
-        Ok(())
+        let client = self.clients.get_mut(key)?;
+        let is_midway = client.connection.peer.is_midway();
+        client.deadlines.silence.hears(self.now, is_midway);
+        Some(())
     }
 
     /// Whether a client is not heard now, because too much is kept for it, or because it is still owed what it has to be sent first. It is
     /// heard again once that is written.
-    fn is_deaf_to(&mut self, key: usize) -> bool {
-        let is_owed_first = self.is_owed_first(key);
-        let Some(client) = self.clients.get_mut(key) else {
-            return false;
-        };
+    fn is_deaf_to(&mut self, key: usize) -> Option<bool> {
+        let is_owed_first = self.is_owed_first(key)?;
+        let client = self.clients.get_mut(key)?;
         if !is_owed_first && !client.connection.is_full() {
-            return false;
+            return Some(false);
         }
         client.is_full = true;
         client.deadlines.silence.owes_no_rest();
-        true
+        Some(true)
     }
 
     /// Whether nothing has been written yet to a client of what it watches. That comes before the answers to what it said later.
-    pub(super) fn is_owed_first(&self, key: usize) -> bool {
-        match self.clients.get(key) {
-            Some(client) => client.connection.is_owed_first(self.list.changes()),
-            None => false,
-        }
+    pub(super) fn is_owed_first(&self, key: usize) -> Option<bool> {
+        let connection = &self.clients.get(key)?.connection;
+        Some(connection.is_owed_first(self.list.changes()))
     }
 
     /// Whether a client is still owed what it has to be sent first, although it was written to.
-    fn stays_owed_first(&mut self, key: usize) -> bool {
-        if !self.is_owed_first(key) {
-            return false;
+    fn stays_owed_first(&mut self, key: usize) -> Option<bool> {
+        if !self.is_owed_first(key)? {
+            return Some(false);
         }
-        self.send(key);
+        self.send(key)?;
         self.is_owed_first(key)
     }
 
     /// Answers what a client has said, until it is owed what it has to be sent first. With a complete message its time begins again.
-    fn answer(&mut self, key: usize) -> Result<(), AllocError> {
+    fn answer(&mut self, key: usize) -> Stays {
         for _ in 0..u64::MAX {
-            if self.stays_owed_first(key) {
-                return Ok(());
+            if self.stays_owed_first(key)? {
+                return Some(());
             }
-            let Some(client) = self.clients.get_mut(key) else {
-                return Ok(());
-            };
-            if client.is_draining || client.connection.is_leaving {
-                return Ok(());
+            let client = self.clients.get_mut(key)?;
+            if client.says_no_more() {
+                return Some(());
             }
-            let Some(event) = client.connection.peer.next()? else {
-                return Ok(());
+            let Some(event) = client.connection.peer.next().ok()? else {
+                return Some(());
             };
             if matches!(event, Event::Text(_) | Event::Binary(_)) {
                 client.deadlines.begins(self.now);
                 client.deadlines.silence.owes_no_rest();
             }
-            self.answer_one(key, &event)?;
+            self.answer_one(key, &event).ok()?;
         }
-        Ok(())
+        Some(())
     }
 
     /// Answers one thing that a client said. A message of one that watches is refused, and a binary one is never a command. After a close
@@ -174,7 +155,6 @@ impl<'a> Clients<'a> {
             Event::Broken(Breach::TooLong) => Some(Answer::Fault(MessageFault::BadField)),
             _ => None,
         };
-        let frame = event.answer(self.alloc)?;
         let Some(client) = self.clients.get_mut(key) else {
             return Ok(());
         };
@@ -183,11 +163,17 @@ impl<'a> Clients<'a> {
             let text = encode(self.alloc, &answer)?;
             outgoing::text(text.as_str(), &mut connection.output)?;
         }
-        if let Some(frame) = frame {
+        if let Some(frame) = event.answer(self.alloc)? {
             connection.output.extend_from_slice(frame.as_slice())?;
         }
         connection.is_leaving = connection.is_leaving || event.is_last();
         Ok(())
+    }
+
+    /// Whether a client watches a board, or all of them.
+    fn is_watching(&self, key: usize) -> bool {
+        let client = self.clients.get(key);
+        client.is_some_and(|client| client.stage() == Stage::Follows)
     }
 
     /// Does what a text of a client that watches nothing asks for. Returns the answer, unless that is what the client is sent from then on.
@@ -207,14 +193,6 @@ impl<'a> Clients<'a> {
         match *step {
             Step::Follow(_, board, from) => Ok(self.follow(key, &board, from)?.map(refused)),
             _ => Ok(Some(refused(Refusal::WrongMode))),
-        }
-    }
-
-    /// Whether a client watches a board, or all of them.
-    fn is_watching(&self, key: usize) -> bool {
-        match self.clients.get(key) {
-            Some(client) => client.stage() == Stage::Follows,
-            None => false,
         }
     }
 }

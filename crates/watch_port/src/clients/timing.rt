@@ -1,7 +1,7 @@
 //! What happens to clients as time passes, and when serving ends.
 
-use crate::audience::tape_at;
-use crate::clients::Clients;
+use crate::audience::tape_of;
+use crate::clients::{Clients, Stays};
 use relay_frames::{Code, outgoing};
 use server_loop::{Stage, Times, Verdict};
 
@@ -17,80 +17,65 @@ impl<'a> Clients<'a> {
         let passed = self.now;
         self.audiences.retain(|_, audience| audience.count > 0 || audience.left_at >= passed);
         for key in 0..self.clients.capacity() {
-            self.look_at(key, now);
+            let looked = self.look_at(key, now);
+            self.keep_if(looked, key);
         }
         true
     }
 
     /// Does what is due for a client.
     #[tactic(auto, unfolding(relay_frames::specs::Codes::may_be_sent))]
-    fn look_at(&mut self, key: usize, now: u64) {
+    fn look_at(&mut self, key: usize, now: u64) -> Stays {
         let most_idle = self.port.most_idle;
-        let Some(client) = self.clients.get_mut(key) else {
-            return;
-        };
+        let client = self.clients.get_mut(key)?;
         let stage = client.stage();
         match client
             .deadlines
             .verdict(&Times::WATCH_PORT, now, stage, most_idle)
         {
-            Verdict::Stays => {}
-            Verdict::Ping => self.ping(key),
+            Verdict::Stays => Some(()),
+            Verdict::Ping => {
+                outgoing::ping(b"", &mut client.connection.output).ok()?;
+                self.send(key)
+            }
             Verdict::Tries => self.send(key),
             Verdict::Idle => self.close(key, Code::AWAY),
             Verdict::Stuck => self.close(key, Code::POLICY),
-            Verdict::Gone => self.remove(key),
-        }
-    }
-
-    /// Sends a client a ping.
-    fn ping(&mut self, key: usize) {
-        let Some(client) = self.clients.get_mut(key) else {
-            return;
-        };
-        match outgoing::ping(b"", &mut client.connection.output) {
-            Ok(()) => self.send(key),
-            Err(_) => self.remove(key),
+            Verdict::Gone => None,
         }
     }
 
     /// Closes a client's connection with a code.
-    fn close(&mut self, key: usize, code: Code) {
-        let Some(client) = self.clients.get_mut(key) else {
-            return;
-        };
-        if client.connection.is_leaving {
-            return;
+    fn close(&mut self, key: usize, code: Code) -> Stays {
+        let connection = &mut self.clients.get_mut(key)?.connection;
+        if connection.is_leaving {
+            return Some(());
         }
-        match client.connection.close(code) {
-            Ok(()) => self.send(key),
-            Err(_) => self.remove(key),
-        }
+        connection.close(code).ok()?;
+        self.send(key)
     }
 
     /// Serving ends: clients that ask for nothing are told so, and so are those that watch a board whose game goes on.
     pub(crate) fn end(&mut self) {
         for key in 0..self.clients.capacity() {
-            self.end_one(key);
+            let told = self.end_one(key);
+            self.keep_if(told, key);
         }
     }
 
     /// Tells a client that serving ends.
     #[tactic(auto, unfolding(relay_frames::specs::Codes::may_be_sent))]
-    fn end_one(&mut self, key: usize) {
-        let Some(client) = self.clients.get(key) else {
-            return;
-        };
-        let tape = tape_at(&self.audiences, client.connection.audience());
-        let is_over = tape.is_some_and(|tape| tape.is_over());
+    fn end_one(&mut self, key: usize) -> Stays {
+        let client = self.clients.get(key)?;
+        let tape = tape_of(&self.audiences, &client.connection);
         match client.stage() {
-            Stage::Comes => self.remove(key),
+            Stage::Comes => None,
             Stage::Asks => self.close(key, Code::AWAY),
-            Stage::Follows if !is_over => match self.put_changes(key, true) {
-                Ok(()) => self.close(key, Code::AWAY),
-                Err(_) => self.remove(key),
-            },
-            Stage::Follows | Stage::Leaves | Stage::Drains => {}
+            Stage::Follows if !tape.is_some_and(|tape| tape.is_over()) => {
+                self.put_changes(key, true).ok()?;
+                self.close(key, Code::AWAY)
+            }
+            Stage::Follows | Stage::Leaves | Stage::Drains => Some(()),
         }
     }
 }

@@ -1,7 +1,7 @@
 //! Which clients watch which board, or all, and which of them are written to as soon as there is news.
 
 use crate::audience::Audience;
-use crate::clients::Clients;
+use crate::clients::{Clients, Stays};
 use crate::watch_connection::{Doing, Watching};
 use c960_game::Refusal;
 use relay_core::BoardName;
@@ -29,11 +29,12 @@ impl<'a> Clients<'a> {
             return Ok(None);
         };
         for at in 0..self.audiences.capacity() {
-            if let Some(audience) = self.audiences.get_mut(at) {
-                if audience.board == board {
+            match self.audiences.get_mut(at) {
+                Some(audience) if audience.board == board => {
                     audience.left_at = self.now;
                     return Ok(Some(at));
                 }
+                _ => {}
             }
         }
         let audience = Audience::new(self.alloc, board, self.now);
@@ -59,8 +60,7 @@ impl<'a> Clients<'a> {
         let Some(board) = self.boards.board(audience.board) else {
             return Ok(Some(Refusal::NoSuchBoard));
         };
-        let length = u16::try_from(audience.tape.len()).unwrap_or(u16::MAX);
-        let Some(spectator) = audience.join(board, from.unwrap_or(length))? else {
+        let Some(spectator) = audience.join(board, from)? else {
             return Ok(Some(Refusal::NotYet));
         };
         if let Some(client) = self.clients.get_mut(key) {
@@ -99,23 +99,18 @@ impl<'a> Clients<'a> {
         }
     }
 
-    /// Adds a client to those that are written to as soon as there is news.
-    pub(super) fn stands_ready(&mut self, key: usize) {
-        let Some(client) = self.clients.get_mut(key) else {
-            return;
-        };
+    /// Adds a client to those that are written to as soon as there is news, if it watches anything.
+    pub(super) fn stands_ready(&mut self, key: usize) -> Stays {
+        let client = self.clients.get_mut(key)?;
         if client.ready_index.is_some() {
-            return;
+            return Some(());
         }
         let doing = &client.connection.doing;
-        let Some(ready) = ready_of(&mut self.audiences, &mut self.list_ready, doing) else {
-            return;
-        };
-        let index = ready.len();
-        match ready.push(key) {
-            Ok(()) => client.ready_index = Some(index),
-            Err(_) => self.remove(key),
+        if let Some(ready) = ready_of(&mut self.audiences, &mut self.list_ready, doing) {
+            ready.push(key).ok()?;
+            client.ready_index = Some(ready.len() - 1);
         }
+        Some(())
     }
 
     /// Removes a client from those. The last of them takes its index.

@@ -1,91 +1,84 @@
 //! What clients are sent: what they are owed, and then what is new.
 
-use crate::audience::tape_at;
-use crate::clients::Clients;
+use crate::audience::tape_of;
+use crate::clients::{Clients, Stays};
 use crate::watch_connection::Doing;
 use server_loop::Delivery;
 use std::alloc::AllocError;
 
 impl<'a> Clients<'a> {
+    /// Writes to a client what is due, unless it goes.
+    pub(crate) fn write_to(&mut self, key: usize) {
+        let sent = self.send(key);
+        self.keep_if(sent, key);
+    }
+
     /// Writes to a client what is due, as far as its connection takes it. If there was no memory for some changes of the boards, they are
     /// due again at the next turn.
-    pub(crate) fn send(&mut self, key: usize) {
+    pub(super) fn send(&mut self, key: usize) -> Stays {
         if self.put_changes(key, false).is_err() {
             self.list_told = 0;
         }
-        let Some(client) = self.clients.get_mut(key) else {
-            return;
-        };
+        let client = self.clients.get_mut(key)?;
         if client.is_draining {
-            return;
+            return Some(());
         }
-        let tape = tape_at(&self.audiences, client.connection.audience());
-        let sent = client.send(tape, self.now);
-        let is_done = sent == Delivery::All && client.connection.is_done(tape);
-        match sent {
-            Delivery::Failed => self.remove(key),
+        let tape = tape_of(&self.audiences, &client.connection);
+        match client.send(tape, self.now) {
+            Delivery::Failed => return None,
             Delivery::Blocked => self.leaves_ready(key),
-            Delivery::All if is_done => self.drains(key),
+            Delivery::All if client.connection.is_done(tape) => {
+                client.drains(self.now);
+                self.watches_no_more(key);
+            }
             Delivery::All => {
-                self.stands_ready(key);
-                self.reads_on(key);
                 self.tells_on(key);
+                self.stands_ready(key)?;
+                self.reads_on(key)?;
             }
         }
+        Some(())
     }
 
     /// Puts the changes of the boards into the output of a client that watches them all, if everything before is written. So a client whose
     /// connection takes it slowly is not sent what is out of date. The last ones are put there in any case.
     pub(super) fn put_changes(&mut self, key: usize, are_last: bool) -> Result<(), AllocError> {
+        let changes = self.list.changes();
         let Some(client) = self.clients.get_mut(key) else {
             return Ok(());
         };
-        let Doing::WatchesAll(told) = client.connection.doing else {
-            return Ok(());
-        };
-        let changes = self.list.changes();
-        if told == changes || !(are_last || client.connection.has_no_output()) {
-            return Ok(());
+        let connection = &mut client.connection;
+        if let Doing::WatchesAll(told) = connection.doing {
+            if told != changes && (are_last || connection.has_no_output()) {
+                self.list.put_changes(told, &mut connection.output)?;
+                connection.doing = Doing::WatchesAll(changes);
+            }
         }
-        self.list.put_changes(told, &mut client.connection.output)?;
-        client.connection.doing = Doing::WatchesAll(changes);
         Ok(())
     }
 
     /// At the end of the turn, sends a client that watches all boards and was sent everything what has changed while that was written.
     fn tells_on(&mut self, key: usize) {
-        let Some(client) = self.clients.get(key) else {
-            return;
-        };
-        if let Doing::WatchesAll(told) = client.connection.doing {
-            if told != self.list.changes() {
-                self.list_told = 0;
+        if let Some(client) = self.clients.get(key) {
+            if let Doing::WatchesAll(told) = client.connection.doing {
+                if told != self.list.changes() {
+                    self.list_told = 0;
+                }
             }
         }
     }
 
     /// A client that was not heard until what it is owed is written is heard again. Its unfinished message has its time from now on.
-    fn reads_on(&mut self, key: usize) {
-        if self.is_owed_first(key) {
-            return;
+    fn reads_on(&mut self, key: usize) -> Stays {
+        let is_owed_first = self.is_owed_first(key)?;
+        let client = self.clients.get_mut(key)?;
+        if is_owed_first || !client.is_full {
+            return Some(());
         }
-        let Some(client) = self.clients.get_mut(key) else {
-            return;
-        };
-        if client.is_full {
-            client.is_full = false;
-            let is_midway = client.connection.peer.is_midway();
-            client.deadlines.silence.is_heard_again(self.now, is_midway);
-            self.stands_unread(key);
-        }
-    }
-
-    /// A client was sent everything: it watches nothing more, and its output ends.
-    fn drains(&mut self, key: usize) {
-        self.watches_no_more(key);
-        if let Some(client) = self.clients.get_mut(key) {
-            client.drains(self.now);
-        }
+        client.is_full = false;
+        let is_midway = client.connection.peer.is_midway();
+        client.deadlines.silence.is_heard_again(self.now, is_midway);
+        self.stands_unread(key)
     }
 
     /// Puts what has happened on the tape of an audience, and writes it to those that are ready.
@@ -110,7 +103,7 @@ impl<'a> Clients<'a> {
             let Some(key) = self.ready(audience).get(index).copied() else {
                 return;
             };
-            self.send(key);
+            self.write_to(key);
             if self.ready(audience).get(index).copied() == Some(key) {
                 index = index.saturating_add(1);
             }

@@ -5,7 +5,7 @@ use Rattle.watch_port.proofs.board_table.play_at.Goals as goal
 
 pub returns-then-at-len : goal.returns-then-at-len
 returns-then-at-len c =
-    written_at (played_by c.args.m) c.args.boards.now.items c.args.at c.index_mut.result.now c.play.new.self (search rules) c.index_mut.ensures.value c.play.ensures
+    written_at (played_by c.args.m) c.args.boards.now.items c.args.at c.index_mut-board.result.now _ (search rules) c.index_mut-board.ensures.value (search rules)
 
 pub returns-else-at-len : goal.returns-else-at-len
 returns-else-at-len c = sym (changes_nothing (played_by c.args.m) c.args.boards.now.items c.args.at (search rules))
