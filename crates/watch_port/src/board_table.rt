@@ -2,14 +2,13 @@
 
 ghost use Rattle.std.specs.Prelude.{◌≡◌, ◌+◌, ◌∷◌, ◌++◌, [], length, slice_get, IfOk, OnErr, OnOk, true, false, option_map, Some, is_some};
 ghost use Rattle.std.specs.List.{position};
-ghost use Rattle.c960_game.specs.Positions.{position_at};
 ghost use Rattle.relay_core.specs.Name.{same_name};
 ghost use Rattle.relay_hall.specs.Reading.{last_of};
 ghost use Rattle.rtrb.specs.Ring.{received};
 ghost use Rattle.watch_port.specs.Copies.{HasTaken, changed_at, copied_after, copy_of, ended_by, nothing_told, played_by, shown_by, summary_of};
 
 use crate::board_event::{BoardEvent, Progress};
-use c960_board::{Move, Position};
+use c960_board::Move;
 use c960_game::{Game, Limits, Outcome};
 use relay_core::BoardName;
 use relay_messages::BoardSummary;
@@ -32,27 +31,6 @@ pub struct BoardCopy {
 }
 
 impl BoardCopy {
-    /// How many moves were made.
-    pub fn len(&self) -> u16
-        ensures { result ≡ length self.now.game.log }
-    {
-        self.game.len()
-    }
-
-    /// The move at a place of its log.
-    pub fn move_at(&self, place: u16) -> Option<Move>
-        ensures { result ≡ slice_get self.now.game.log place }
-    {
-        self.game.move_at(place)
-    }
-
-    /// The position at a place of its log, if the log has reached it.
-    pub fn position_at(&self, place: u16) -> Option<Position>
-        ensures { result ≡ position_at self.now.game.start self.now.game.log place }
-    {
-        self.game.position_at(place)
-    }
-
     /// How far its game has come: it has changed if this has.
     pub(crate) fn progress(&self) -> Progress
         ensures moves { result.moves ≡ length self.now.game.log }

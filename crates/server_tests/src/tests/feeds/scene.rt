@@ -49,23 +49,24 @@ pub struct Scene {
 
 /// Whether a copy shows all that the board shows.
 fn is_whole(shown: &Shown, copy: &BoardCopy) -> bool {
-    let plies = copy.len();
+    let plies = copy.game.len();
     copy.summary() == shown.summary()
         && copy.name == shown.name()
         && copy.outcome == shown.outcome()
-        && copy.position_at(plies / 2) == shown.position_at(plies / 2)
-        && copy.position_at(plies.wrapping_add(1)).is_none()
+        && copy.game.position_at(plies / 2) == shown.position_at(plies / 2)
+        && copy.game.position_at(plies.wrapping_add(1)).is_none()
 }
 
 /// Whether a copy has the first of these moves, and the outcome only with all of them.
 fn is_beginning(moves: &[Move], shown: &Shown, copy: &BoardCopy) -> bool {
-    for place in 0..copy.len() {
-        if copy.move_at(place) != moves.get(usize::from(place)).copied() {
+    for place in 0..copy.game.len() {
+        if copy.game.move_at(place) != moves.get(usize::from(place)).copied() {
             return false;
         }
     }
     match copy.outcome {
-        Some(outcome) => shown.outcome() == Some(outcome) && usize::from(copy.len()) == moves.len(),
+        Some(outcome) => shown.outcome() == Some(outcome)
+            && usize::from(copy.game.len()) == moves.len(),
         None => true,
     }
 }
