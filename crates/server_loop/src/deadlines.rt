@@ -62,7 +62,7 @@ impl Times {
 }
 
 /// What is to be done with a connection.
-#[derive(Clone, Copy, PartialEq, Eq, Debug)]
+#[derive(Clone, Copy, PartialEq, Eq)]
 pub enum Verdict {
     /// Nothing.
     Stays,
@@ -79,7 +79,7 @@ pub enum Verdict {
 }
 
 /// What a connection does.
-#[derive(Clone, Copy, PartialEq, Eq, Debug)]
+#[derive(Clone, Copy, PartialEq, Eq)]
 pub enum Stage {
     /// It sends its request.
     Comes,

@@ -5,7 +5,7 @@ use relay_core::BoardName;
 use std::fmt;
 
 /// A line on standard error.
-#[derive(Clone, Copy, Debug)]
+#[derive(Clone, Copy)]
 pub enum LogLine {
     /// A board was opened.
     Opened(BoardName),

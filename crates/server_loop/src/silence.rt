@@ -6,7 +6,7 @@ ghost use Rattle.std.specs.Prelude.{◌≡◌, false, true, None, Some, IsSome};
 pub(crate) const MOST_PINGS: u64 = 2;
 
 /// Since when a connection has been silent, and since when it has owed the rest of a message.
-#[derive(Clone, Copy, Debug)]
+#[derive(Clone, Copy)]
 pub struct Silence {
     /// When something last came from it.
     pub heard_at: u64,

@@ -8,7 +8,7 @@ use std::io;
 use std::io::{ErrorKind, IoSlice, Read, Write};
 
 /// What came from a connection.
-#[derive(Clone, Copy, PartialEq, Eq, Debug)]
+#[derive(Clone, Copy, PartialEq, Eq)]
 pub enum Intake {
     /// This many bytes came.
     Bytes(usize),
@@ -21,7 +21,7 @@ pub enum Intake {
 }
 
 /// How a connection took what was due.
-#[derive(Clone, Copy, PartialEq, Eq, Debug)]
+#[derive(Clone, Copy, PartialEq, Eq)]
 pub enum Delivery {
     /// It took everything.
     All,
@@ -32,7 +32,7 @@ pub enum Delivery {
 }
 
 /// How a connection took what was written at once.
-#[derive(Clone, Copy, PartialEq, Eq, Debug)]
+#[derive(Clone, Copy, PartialEq, Eq)]
 pub enum Written {
     /// It took the first so many bytes.
     Bytes(usize),
