@@ -4,9 +4,9 @@ use Rattle.relay_hall.specs.declared.handed.Handed.{Handed}
 use Rattle.relay_hall.specs.declared.owner.Owner.{Owner}
 use Rattle.relay_hall.specs.Record.{HallRecord}
 use Rattle.relay_hall.specs.Runs.{Goes, HallEvent, IsOneStep, Replied, Says, Silent}
-use Rattle.relay_calling.specs.Calling.{AnswersNext, Fails, OperatorRecord}
-use Rattle.relay_following.specs.Calls as following
-use Rattle.relay_following.specs.Record.{ConnectionRecord}
+use Rattle.relay_service.specs.Calling.Answering.{AnswersNext, Fails, OperatorRecord}
+use Rattle.relay_service.specs.Following.Calls as following
+use Rattle.relay_service.specs.Following.Record.{ConnectionRecord}
 use Rattle.relay_service.specs.declared.connection.Connection.{Connection}
 use Rattle.relay_service.specs.declared.connection.Connection.TheVariants.{Operator, Follower}
 use Rattle.relay_service.specs.Calls.{AnswersAt, AnswersOperator, Departs, DisconnectsAt, FailsAt, FailsOperator, ForEach, Forgets, LeavesAs, LeavesAt, Passes, Serves}

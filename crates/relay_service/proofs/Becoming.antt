@@ -3,11 +3,11 @@ use Rattle.std.proofs.Common.{◌≡◌, Bool, true, false, cond, is_some, Optio
 use Rattle.std.proofs.lemmas.Option.{none-some}
 use Rattle.relay_hall.specs.declared.handed.Handed.{Handed}
 use Rattle.relay_hall.specs.Record.{FloorRecord}
-use Rattle.relay_calling.specs.Calling.{OperatorRecord, is_the_last, left_after, stage_after}
-use Rattle.relay_calling.specs.declared.stage.Stage.TheVariants.{HandsOver}
-use Rattle.relay_calling.specs.Running.{Deed, IsDone, came, failed, was_answered, was_pinged, was_sent_away, wrote}
-use Rattle.relay_following.specs.Boards.{IsIn}
-use Rattle.relay_following.specs.Record.{newcomer}
+use Rattle.relay_service.specs.Calling.Answering.{OperatorRecord, is_the_last, left_after, stage_after}
+use Rattle.relay_service.specs.declared.calling.stage.Stage.TheVariants.{HandsOver}
+use Rattle.relay_service.specs.Calling.Running.{Deed, IsDone, came, failed, was_answered, was_pinged, was_sent_away, wrote}
+use Rattle.relay_service.specs.Following.Boards.{IsIn}
+use Rattle.relay_service.specs.Following.Record.{newcomer}
 use Rattle.relay_service.specs.declared.connection.Connection.{Connection}
 use Rattle.relay_service.specs.declared.connection.Connection.TheVariants.{Operator, Follower}
 use Rattle.relay_service.specs.Calls.{becomes, heard_as}

@@ -6,10 +6,10 @@ use Rattle.std.proofs.lemmas.Option.{none-some}
 use Rattle.relay_hall.specs.declared.handed.Handed.{Handed}
 use Rattle.relay_hall.specs.Record.{HallRecord}
 use Rattle.relay_hall.specs.Runs.{HallEvent}
-use Rattle.relay_calling.specs.Calling.{OperatorRecord}
-use Rattle.relay_calling.specs.Connections.{LeadsHall, happens}
-use Rattle.relay_calling.specs.Running.{Deed, Moment, came, failed, was_answered}
-use Rattle.relay_following.specs.Record.{ConnectionRecord}
+use Rattle.relay_service.specs.Calling.Answering.{OperatorRecord}
+use Rattle.relay_service.specs.Calling.Connections.{LeadsHall, happens}
+use Rattle.relay_service.specs.Calling.Running.{Deed, Moment, came, failed, was_answered}
+use Rattle.relay_service.specs.Following.Record.{ConnectionRecord}
 use Rattle.relay_service.specs.declared.connection.Connection.{Connection}
 use Rattle.relay_service.specs.declared.connection.Connection.TheVariants.{Operator, Follower}
 use Rattle.relay_service.specs.declared.turn.NewDeed.{NewDeed}

@@ -1,8 +1,8 @@
 -- One event more, at the end of a list of events.
 use Rattle.std.proofs.Common.{◌≡◌, ℕ, List, [], ◌∷◌, ◌++◌, Bool, true, false, true≢false, ◌||◌, inl, inr, refl, sym, ap, ◌∙◌, subst}
 use Rattle.relay_hall.specs.Runs.{AllSayWhileThere, HallEvent, IsOrderly, SaysNoMore, SaysWhileThere, count_after, counts_after, goes_now, has_gone, says_now}
-use Rattle.relay_calling.specs.Connections.{Turn, happens, passes}
-use Rattle.relay_calling.specs.Running.{came, failed, was_answered, was_pinged, was_sent_away, wrote}
+use Rattle.relay_service.specs.Calling.Connections.{Turn, happens, passes}
+use Rattle.relay_service.specs.Calling.Running.{came, failed, was_answered, was_pinged, was_sent_away, wrote}
 use Rattle.relay_service.specs.Runs.{AreMadeBy, MadeBy, counts_by, has_left, holders_after, leaves_by}
 
 -- ---- Tests.

@@ -2,13 +2,13 @@
 use Rattle.std.proofs.Common.{◌≡◌, ◌+◌, ℕ, List, nat_lt, Bool, true, false, cond, length, Some, inl, inr, refl, ap, ◌∙◌}
 use Rattle.relay_frames.specs.Events.{Told, fragment, text, binary, ping, pong, closed, broken}
 use Rattle.relay_hall.specs.Record.{FloorRecord}
-use Rattle.relay_following.specs.Boards.{IsIn}
-use Rattle.relay_following.specs.Calls.{Answers, Fails, answered, closed_by, closes, delivers, gone, if_follows, left, moved_on, passes_over, pinged, puts, wrote}
-use Rattle.relay_following.specs.declared.stage.Stage.TheVariants.{Left}
-use Rattle.relay_following.specs.Pieces.{a_ping}
-use Rattle.relay_following.specs.Record.{ConnectionRecord, DeliveryRecord, follows}
-use Rattle.relay_following.proofs.lemmas.Boards.{in_wrote}
-use Rattle.relay_following.proofs.lemmas.Calls.{in_answers, in_closed, in_fails, in_gone, in_pinged}
+use Rattle.relay_service.specs.Following.Boards.{IsIn}
+use Rattle.relay_service.specs.Following.Calls.{Answers, Fails, answered, closed_by, closes, delivers, gone, if_follows, left, moved_on, passes_over, pinged, puts, wrote}
+use Rattle.relay_service.specs.declared.following.stage.Stage.TheVariants.{Left}
+use Rattle.relay_service.specs.Following.Pieces.{a_ping}
+use Rattle.relay_service.specs.Following.Record.{ConnectionRecord, DeliveryRecord, follows}
+use Rattle.relay_service.proofs.FollowingFacts.Boards.{in_wrote}
+use Rattle.relay_service.proofs.FollowingFacts.Calls.{in_answers, in_closed, in_fails, in_gone, in_pinged}
 
 -- it is in each hall in which it was, and its opening is the same
 abbrev pub Keeps : DeliveryRecord → DeliveryRecord → Type 0

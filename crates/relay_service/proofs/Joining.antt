@@ -6,8 +6,8 @@ use Rattle.relay_hall.specs.Meeting.{BoardsStay}
 use Rattle.relay_hall.specs.Record.{FloorRecord}
 use Rattle.relay_hall.specs.Runs.{Goes, Silent}
 use Rattle.relay_hall.proofs.lemmas.Staying.{step_stays}
-use Rattle.relay_calling.specs.Running.{Deed}
-use Rattle.relay_following.proofs.lemmas.Boards.{in_on}
+use Rattle.relay_service.specs.Calling.Running.{Deed}
+use Rattle.relay_service.proofs.FollowingFacts.Boards.{in_on}
 use Rattle.relay_service.specs.declared.connection.Connection.{Connection}
 use Rattle.relay_service.specs.declared.connection.Connection.TheVariants.{Operator, Follower}
 use Rattle.relay_service.specs.Calls.{Departs, Does, Replaces}

@@ -7,14 +7,14 @@ use Rattle.relay_hall.specs.declared.handed.Handed.{Handed}
 use Rattle.relay_hall.specs.declared.owner.Owner.{Owner}
 use Rattle.relay_hall.specs.Record.{FloorRecord, HallRecord}
 use Rattle.relay_hall.specs.Runs.{Comes, Goes, HallEvent, HallStep, IsOneStep, SaysWhileThere, Silent, count_after, goes_now, says_now}
-use Rattle.relay_calling.specs.Calling.{OperatorRecord, after_write, asks}
-use Rattle.relay_calling.specs.Connections.{LeadsHall, Turn, happens, passes}
-use Rattle.relay_calling.specs.Running.{Deed, IsDone, Moment, came, failed, was_answered, was_pinged, was_sent_away, wrote}
+use Rattle.relay_service.specs.Calling.Answering.{OperatorRecord, after_write, asks}
+use Rattle.relay_service.specs.Calling.Connections.{LeadsHall, Turn, happens, passes}
+use Rattle.relay_service.specs.Calling.Running.{Deed, IsDone, Moment, came, failed, was_answered, was_pinged, was_sent_away, wrote}
 use Rattle.relay_hall.specs.Meeting.{BoardsStay}
 use Rattle.relay_hall.proofs.lemmas.Staying.{once_stays, same_stay, step_stays}
-use Rattle.relay_following.specs.Record.{ConnectionRecord}
-use Rattle.relay_following.proofs.lemmas.Boards.{newcomer_in}
-use Rattle.relay_following.proofs.lemmas.Handing.{handed_in}
+use Rattle.relay_service.specs.Following.Record.{ConnectionRecord}
+use Rattle.relay_service.proofs.FollowingFacts.Boards.{newcomer_in}
+use Rattle.relay_service.proofs.FollowingFacts.Handing.{handed_in}
 use Rattle.relay_service.specs.declared.connection.Connection.{Connection}
 use Rattle.relay_service.specs.declared.connection.Connection.TheVariants.{Operator, Follower}
 use Rattle.relay_service.specs.declared.service.Service.TheInside.{Inside}

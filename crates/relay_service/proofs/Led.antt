@@ -4,14 +4,14 @@ use Rattle.std.proofs.lemmas.Option.{none-some, same_Some}
 use Rattle.c960_game.specs.Limits.{LimitNumbers}
 use Rattle.relay_hall.specs.Record.{HallRecord}
 use Rattle.relay_hall.specs.Runs.{HallEvent, HallStep, HallTold, Silent}
-use Rattle.relay_calling.specs.Calling.{OperatorRecord, newcomer}
-use Rattle.relay_calling.specs.Connections.{ConnectionsRecord, IsTaken, OthersStay, Turn, Turns, deeds_of, happens, passes}
-use Rattle.relay_calling.specs.Running.{Deed, IsDone, IsServed}
+use Rattle.relay_service.specs.Calling.Answering.{OperatorRecord, newcomer}
+use Rattle.relay_service.specs.Calling.Connections.{ConnectionsRecord, IsTaken, OthersStay, Turn, Turns, deeds_of, happens, passes}
+use Rattle.relay_service.specs.Calling.Running.{Deed, IsDone, IsServed}
 use Rattle.relay_service.specs.declared.connection.Connection.{Connection}
 use Rattle.relay_service.specs.declared.connection.Connection.TheVariants.{Operator, Follower}
-use Rattle.relay_following.proofs.lemmas.Shown.{shown}
-use Rattle.relay_following.specs.Record.{ConnectionRecord}
-use Rattle.relay_following.specs.Served.{IsServed as IsDelivered}
+use Rattle.relay_service.proofs.FollowingFacts.Shown.{shown}
+use Rattle.relay_service.specs.Following.Record.{ConnectionRecord}
+use Rattle.relay_service.specs.Following.Served.{IsServed as IsDelivered}
 use Rattle.relay_service.specs.Calls.{Does, IsServedAt, IsServedIn, Passes, Replaces}
 use Rattle.relay_service.specs.Inner.{AreJoined, IsLedTo, IsOperatorOf, beginning}
 use Rattle.relay_service.specs.Record.{ServiceRecord, begun, connection_at, follower_at, follower_in}

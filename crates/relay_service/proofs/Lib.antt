@@ -1,9 +1,11 @@
 pub mod lemmas
 mod Becoming
+mod CallingFacts
 mod Connections
 mod Doing
 mod Events
 mod Followers
+mod FollowingFacts
 mod Here
 mod Joining
 mod Keeping

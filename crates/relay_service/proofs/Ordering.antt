@@ -16,9 +16,9 @@ use Rattle.relay_hall.specs.Record.{FloorRecord, HallRecord, nobody_yet}
 use Rattle.relay_hall.specs.Talk.{may_make}
 use Rattle.relay_hall.specs.Runs.{HallEvent, HallStep, HallTold, Comes, Goes, Says, Replied, Silent, SaysWhileThere, count_after, counts_after, goes_now, has_gone, history_after, says_now}
 use Rattle.relay_hall.proofs.lemmas.Staying.{same_stay, step_stays}
-use Rattle.relay_calling.specs.Calling.{OperatorRecord}
-use Rattle.relay_calling.specs.Connections.{Turn, happens, passes}
-use Rattle.relay_calling.specs.Running.{Deed, came}
+use Rattle.relay_service.specs.Calling.Answering.{OperatorRecord}
+use Rattle.relay_service.specs.Calling.Connections.{Turn, happens, passes}
+use Rattle.relay_service.specs.Calling.Running.{Deed, came}
 use Rattle.relay_service.specs.declared.connection.Connection.{Connection}
 use Rattle.relay_service.specs.declared.connection.Connection.TheVariants.{Operator, Follower}
 use Rattle.relay_service.specs.Calls.{Departs, Does, Passes, Replaces, arrival}

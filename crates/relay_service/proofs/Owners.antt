@@ -6,12 +6,12 @@ use Rattle.relay_frames.specs.declared.head.HeadSoFar.TheVariants.{Part, Whole, 
 use Rattle.relay_frames.specs.Heads.{head_so_far_behind}
 use Rattle.relay_hall.specs.declared.owner.Owner.{Owner}
 use Rattle.relay_hall.specs.Record.{FloorRecord}
-use Rattle.relay_calling.specs.Calling.{OperatorRecord, asks}
-use Rattle.relay_calling.specs.Coming.{FedWhile, Settled, comes, grown}
-use Rattle.relay_calling.specs.declared.stage.Stage.{Stage}
-use Rattle.relay_calling.specs.declared.stage.Stage.TheVariants.{Comes, Asks, HandsOver, Leaves}
-use Rattle.relay_calling.specs.Running.{Deed, IsDone, came, failed, was_answered, was_pinged, was_sent_away, wrote}
-use Rattle.relay_calling.proofs.lemmas.Deeds.{asking_has_come, close_put, fed_behind, has_come_still, ping_put, who_stays}
+use Rattle.relay_service.specs.Calling.Answering.{OperatorRecord, asks}
+use Rattle.relay_service.specs.Calling.Coming.{FedWhile, Settled, comes, grown}
+use Rattle.relay_service.specs.declared.calling.stage.Stage.{Stage}
+use Rattle.relay_service.specs.declared.calling.stage.Stage.TheVariants.{Comes, Asks, HandsOver, Leaves}
+use Rattle.relay_service.specs.Calling.Running.{Deed, IsDone, came, failed, was_answered, was_pinged, was_sent_away, wrote}
+use Rattle.relay_service.proofs.CallingFacts.Deeds.{asking_has_come, close_put, fed_behind, has_come_still, ping_put, who_stays}
 use Rattle.relay_service.specs.Calls.{arrival}
 use Rattle.relay_service.specs.Inner.{AreOpened, NamesNone}
 

@@ -6,8 +6,8 @@ use Rattle.relay_core.specs.History.{History}
 use Rattle.relay_hall.specs.Record.{HallRecord, nobody_yet}
 use Rattle.relay_hall.specs.Restart.{IsRestart}
 use Rattle.relay_hall.specs.Runs.{HallEvent, HallRuns, HallTold, history_after}
-use Rattle.relay_calling.specs.Calling.{OperatorRecord, newcomer}
-use Rattle.relay_calling.specs.Connections.{Turn, Turns, deeds_of}
+use Rattle.relay_service.specs.Calling.Answering.{OperatorRecord, newcomer}
+use Rattle.relay_service.specs.Calling.Connections.{Turn, Turns, deeds_of}
 use Rattle.relay_service.specs.Inner.{IsLedTo, IsOrdered}
 use Rattle.relay_service.specs.Record.{ServiceRecord}
 use Rattle.relay_service.specs.Resumed.{AreOfRestart, passing, resumed}

@@ -25,7 +25,7 @@ use Rattle.relay_hall.specs.Runs.{HallEvent, HallRuns, HallStep, HallTold, IsOne
 use Rattle.relay_hall.specs.Steps.{Makes, OpensAs, answer_to_open, is_owned, new_board, tells_of}
 use Rattle.relay_hall.specs.Talk.{IsAnsweredBy, IsUnansweredBy, IsUnmade, IsUnread, SaidAnswered, StepReplied, may_make}
 use Rattle.relay_hall.proofs.lemmas.Staying.{made_stay}
-use Rattle.relay_calling.specs.Calling.{AnswersNext, EventAnswered, EventUnanswered, Fails, OperatorRecord, Stays}
+use Rattle.relay_service.specs.Calling.Answering.{AnswersNext, EventAnswered, EventUnanswered, Fails, OperatorRecord, Stays}
 use Rattle.relay_service.specs.Inner.{AreOpened}
 use Rattle.relay_service.specs.Rights.{AreRightful, IsRightful, IsRightfulStep, OwnsBoard}
 

@@ -4,8 +4,8 @@ use Rattle.std.specs.Prelude.{MatchOption}
 use Rattle.std.specs.declared.alloc.AllocError.{AllocError}
 use Rattle.std.proofs.lemmas.Option.{same_Some}
 use Rattle.relay_hall.proofs.lemmas.Staying.{same_stay}
-use Rattle.relay_following.specs.Boards.{IsIn}
-use Rattle.relay_following.specs.Record.{ConnectionRecord, follows}
+use Rattle.relay_service.specs.Following.Boards.{IsIn}
+use Rattle.relay_service.specs.Following.Record.{ConnectionRecord, follows}
 use Rattle.relay_service.specs.declared.connection.Connection.{Connection}
 use Rattle.relay_service.specs.declared.connection.Connection.TheVariants.{Operator, Follower}
 use Rattle.relay_service.specs.Calls.{IfFollows, PushFailsAt, PushFailsTo, PushesAt, PushesTo, Replaces, Serves}

@@ -6,10 +6,10 @@ use Rattle.std.proofs.lemmas.Option.{none-some}
 use Rattle.relay_hall.specs.declared.handed.Handed.{Handed}
 use Rattle.relay_hall.specs.Record.{HallRecord}
 use Rattle.relay_hall.specs.Runs.{IsOneStep}
-use Rattle.relay_calling.specs.Calling.{AnswersNext, IsTold, OperatorRecord}
-use Rattle.relay_following.specs.Served.{IsOpening}
-use Rattle.relay_following.proofs.lemmas.Boards.{untaken}
-use Rattle.relay_following.proofs.lemmas.Handing.{handed_in, told_of}
+use Rattle.relay_service.specs.Calling.Answering.{AnswersNext, IsTold, OperatorRecord}
+use Rattle.relay_service.specs.Following.Served.{IsOpening}
+use Rattle.relay_service.proofs.FollowingFacts.Boards.{untaken}
+use Rattle.relay_service.proofs.FollowingFacts.Handing.{handed_in, told_of}
 use Rattle.relay_service.specs.declared.connection.Connection.{Connection}
 use Rattle.relay_service.specs.declared.connection.Connection.TheVariants.{Operator, Follower}
 use Rattle.relay_service.specs.Calls.{AnswersNextTo, AnswersTo, FailsTo, IfOperator, IfPresent, taken_up}

@@ -4,16 +4,16 @@ use Rattle.relay_hall.specs.declared.handed.Handed.{Handed}
 use Rattle.relay_hall.specs.declared.owner.Owner.{Owner}
 use Rattle.relay_hall.specs.Record.{FloorRecord, HallRecord}
 use Rattle.relay_hall.specs.Runs.{HallEvent, HallStep, Comes, Goes, Silent}
-use Rattle.relay_calling.specs.Calling.{AnswersNext, Fails, OperatorRecord, asks}
-use Rattle.relay_calling.specs.Coming.{Feeds, comes}
-use Rattle.relay_calling.specs.Connections.{LeadsHall, Turn, deeds_of, happens, passes}
-use Rattle.relay_calling.specs.declared.stage.Stage.{Stage}
-use Rattle.relay_calling.specs.declared.stage.Stage.TheVariants.{HandsOver}
-use Rattle.relay_calling.specs.Running.{Deed, IsDone, IsServed, Moment, came, failed, was_answered, was_pinged, was_sent_away, wrote}
-use Rattle.relay_following.specs.Calls as following
-use Rattle.relay_following.specs.Pushing.{PushFails, Pushes}
-use Rattle.relay_following.specs.Record.{ConnectionRecord, follows, newcomer}
-use Rattle.relay_following.specs.Shown.{IsShown}
+use Rattle.relay_service.specs.Calling.Answering.{AnswersNext, Fails, OperatorRecord, asks}
+use Rattle.relay_service.specs.Calling.Coming.{Feeds, comes}
+use Rattle.relay_service.specs.Calling.Connections.{LeadsHall, Turn, deeds_of, happens, passes}
+use Rattle.relay_service.specs.declared.calling.stage.Stage.{Stage}
+use Rattle.relay_service.specs.declared.calling.stage.Stage.TheVariants.{HandsOver}
+use Rattle.relay_service.specs.Calling.Running.{Deed, IsDone, IsServed, Moment, came, failed, was_answered, was_pinged, was_sent_away, wrote}
+use Rattle.relay_service.specs.Following.Calls as following
+use Rattle.relay_service.specs.Following.Pushing.{PushFails, Pushes}
+use Rattle.relay_service.specs.Following.Record.{ConnectionRecord, follows, newcomer}
+use Rattle.relay_service.specs.Following.Shown.{IsShown}
 use Rattle.relay_service.specs.declared.connection.Connection.{Connection}
 use Rattle.relay_service.specs.declared.connection.Connection.TheVariants.{Operator, Follower}
 use Rattle.relay_service.specs.Record.{ServiceRecord, connection_at, connection_in, follower_at, owner_at, present_in}

@@ -8,11 +8,11 @@ use Rattle.relay_hall.specs.declared.owner.Owner.{Owner}
 use Rattle.relay_hall.specs.Keys.{same_key}
 use Rattle.relay_hall.specs.Record.{FloorRecord, HallBoard, nobody_yet}
 use Rattle.relay_hall.specs.Runs.{HallEvent, counts_after, has_gone}
-use Rattle.relay_calling.specs.Calling.{OperatorRecord, newcomer}
-use Rattle.relay_calling.specs.Coming.{comes}
-use Rattle.relay_calling.specs.Connections.{ConnectionsRecord, Turns, deeds_of}
-use Rattle.relay_calling.specs.declared.stage.Stage.TheVariants.{HandsOver}
-use Rattle.relay_following.specs.Boards.{IsIn}
+use Rattle.relay_service.specs.Calling.Answering.{OperatorRecord, newcomer}
+use Rattle.relay_service.specs.Calling.Coming.{comes}
+use Rattle.relay_service.specs.Calling.Connections.{ConnectionsRecord, Turns, deeds_of}
+use Rattle.relay_service.specs.declared.calling.stage.Stage.TheVariants.{HandsOver}
+use Rattle.relay_service.specs.Following.Boards.{IsIn}
 use Rattle.relay_service.specs.declared.connection.Connection.{Connection}
 use Rattle.relay_service.specs.declared.connection.Connection.TheVariants.{Operator, Follower}
 use Rattle.relay_service.specs.declared.service.Service.TheInside.{Inside}

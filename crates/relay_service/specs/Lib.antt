@@ -1,4 +1,6 @@
+pub mod Calling
 pub mod Calls
+pub mod Following
 pub mod Inner
 pub mod Looking
 pub mod Noting

@@ -8,13 +8,13 @@ use Rattle.relay_hall.specs.Reading.{place_of}
 use Rattle.relay_hall.specs.Record.{FloorRecord}
 use Rattle.relay_hall.specs.Steps.{tells_of}
 use Rattle.relay_hall.specs.Talk.{are_none}
-use Rattle.relay_calling.specs.Calling.{OperatorRecord}
-use Rattle.relay_calling.specs.declared.stage.Stage as calling
-use Rattle.relay_calling.specs.declared.stage.Stage.TheVariants as operators
-use Rattle.relay_following.specs.declared.stage.Stage as following
-use Rattle.relay_following.specs.declared.stage.Stage.TheVariants as followers
-use Rattle.relay_following.specs.Calls.{is_full}
-use Rattle.relay_following.specs.Record.{ConnectionRecord, follows}
+use Rattle.relay_service.specs.Calling.Answering.{OperatorRecord}
+use Rattle.relay_service.specs.declared.calling.stage.Stage as calling
+use Rattle.relay_service.specs.declared.calling.stage.Stage.TheVariants as operators
+use Rattle.relay_service.specs.declared.following.stage.Stage as following
+use Rattle.relay_service.specs.declared.following.stage.Stage.TheVariants as followers
+use Rattle.relay_service.specs.Following.Calls.{is_full}
+use Rattle.relay_service.specs.Following.Record.{ConnectionRecord, follows}
 use Rattle.relay_service.specs.declared.connection.Connection.{Connection}
 use Rattle.relay_service.specs.declared.connection.Connection.TheVariants.{Operator, Follower}
 use Rattle.relay_service.specs.declared.stage.Stage.{Stage}

@@ -1,6 +1,6 @@
 -- Which turn is noted.
-use Rattle.relay_calling.specs.Connections.{Turn, happens, passes}
-use Rattle.relay_calling.specs.Running.{Deed, Moment, came, failed, was_answered, was_pinged, was_sent_away, wrote}
+use Rattle.relay_service.specs.Calling.Connections.{Turn, happens, passes}
+use Rattle.relay_service.specs.Calling.Running.{Deed, Moment, came, failed, was_answered, was_pinged, was_sent_away, wrote}
 use Rattle.relay_hall.specs.Runs as runs
 use Rattle.relay_service.specs.declared.turn.NewTurn.{NewTurn}
 use Rattle.relay_service.specs.declared.turn.NewTurn.TheVariants.{Happens, Comes, Goes, Time, Shuts, Ends}

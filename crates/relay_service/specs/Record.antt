@@ -4,9 +4,9 @@ use Rattle.std.specs.Map.{lookup}
 use Rattle.c960_game.specs.Limits.{LimitNumbers}
 use Rattle.relay_hall.specs.declared.owner.Owner.{Owner}
 use Rattle.relay_hall.specs.Record.{HallRecord, nobody_yet}
-use Rattle.relay_calling.specs.Calling.{OperatorRecord, newcomer}
-use Rattle.relay_calling.specs.Connections.{Turn}
-use Rattle.relay_following.specs.Record.{ConnectionRecord}
+use Rattle.relay_service.specs.Calling.Answering.{OperatorRecord, newcomer}
+use Rattle.relay_service.specs.Calling.Connections.{Turn}
+use Rattle.relay_service.specs.Following.Record.{ConnectionRecord}
 use Rattle.relay_service.specs.declared.connection.Connection.{Connection}
 use Rattle.relay_service.specs.declared.connection.Connection.TheVariants.{Operator, Follower}
 

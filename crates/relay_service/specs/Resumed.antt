@@ -4,7 +4,7 @@ use Rattle.c960_game.specs.Limits.{LimitNumbers}
 use Rattle.relay_hall.specs.Record.{HallRecord}
 use Rattle.relay_hall.specs.Restart.{IsRestart}
 use Rattle.relay_hall.specs.Runs.{HallEvent, HallTold}
-use Rattle.relay_calling.specs.Connections.{Turn, passes}
+use Rattle.relay_service.specs.Calling.Connections.{Turn, passes}
 use Rattle.relay_service.specs.Record.{ServiceRecord}
 
 -- each event as a turn, with what it was told

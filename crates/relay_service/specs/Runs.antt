@@ -6,8 +6,8 @@ use Rattle.relay_core.specs.History.{History}
 use Rattle.relay_hall.specs.declared.owner.Owner.{Owner}
 use Rattle.relay_hall.specs.Record.{HallRecord, nobody_yet}
 use Rattle.relay_hall.specs.Runs.{AllSayWhileThere, HallEvent, HallRuns, HallTold, IsOrderly, Says, count_after, goes_now}
-use Rattle.relay_calling.specs.Connections.{Turn, happens, passes}
-use Rattle.relay_calling.specs.Running.{came, failed, was_answered, was_pinged, was_sent_away, wrote}
+use Rattle.relay_service.specs.Calling.Connections.{Turn, happens, passes}
+use Rattle.relay_service.specs.Calling.Running.{came, failed, was_answered, was_pinged, was_sent_away, wrote}
 use Rattle.relay_service.specs.Record.{ServiceRecord}
 use Rattle.relay_service.specs.Rights.{AreRightful}
 

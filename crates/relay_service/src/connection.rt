@@ -1,9 +1,9 @@
 //! A connection of a service, by what it does.
 
 ghost use Rattle.std.specs.Prelude.{◌≡◌, [], None, Some, IfOk, IfSome, OnErr, false, is_some, option_map, take, true};
-ghost use Rattle.relay_calling.specs.Calling.{after_write, asks, pinged, sent_away};
+ghost use Rattle.relay_service.specs.Calling.Answering.{after_write, asks, pinged, sent_away};
 ghost use Rattle.relay_service.specs.declared.connection.Connection.TheVariants.{Operator, Follower};
-ghost use Rattle.relay_following.specs.Served.{IsOpening};
+ghost use Rattle.relay_service.specs.Following.Served.{IsOpening};
 ghost use Rattle.relay_service.specs.Calls.{AnswersNextTo, AnswersTo, FailsTo, FeedsTo, IfOperator, IfPresent, LeftAs, arrival_at, heard_as, taken_up};
 ghost use Rattle.relay_service.specs.Looking.{is_full_in, is_midway_in, stage_of, stage_of_follower, stage_of_operator, was_cut_in};
 ghost use Rattle.relay_service.specs.Record.{follower_in, opened, operator_in, owner_in, present_in};
@@ -11,10 +11,10 @@ ghost use Rattle.relay_service.specs.Record.{follower_in, opened, operator_in, o
 mod following;
 
 use crate::bytes::Bytes;
+use crate::calling::laws::what_is_handed_over_was_told;
+use crate::calling::{OperatorConnection, Stage as OperatorStage};
+use crate::following::{FollowerConnection, Stage as FollowerStage};
 use crate::stage::Stage;
-use relay_calling::laws::what_is_handed_over_was_told;
-use relay_calling::{OperatorConnection, Stage as OperatorStage};
-use relay_following::{FollowerConnection, Stage as FollowerStage};
 use relay_frames::Code;
 use relay_hall::{Hall, Handed, Key, Owner};
 use std::alloc::{AllocError, Global};

@@ -8,7 +8,7 @@ ghost use Rattle.relay_hall.specs.Holders.{presence_of};
 ghost use Rattle.relay_hall.specs.Record.{HallBoard};
 ghost use Rattle.relay_hall.specs.Restart.{IsRestart};
 ghost use Rattle.relay_hall.specs.Runs.{IsInTime, present};
-ghost use Rattle.relay_calling.specs.Connections.{deeds_of};
+ghost use Rattle.relay_service.specs.Calling.Connections.{deeds_of};
 ghost use Rattle.relay_service.specs.Calls.{Replaces};
 ghost use Rattle.relay_service.specs.Record.{begun, opened};
 ghost use Rattle.relay_service.specs.Resumed.{IsResumed};

@@ -3,7 +3,7 @@
 ghost use Rattle.std.specs.Prelude.{◌≡◌, List, [], ◌∷◌, ◌++◌};
 ghost use Rattle.std.specs.Borrow.{ftrue};
 ghost use Rattle.relay_hall.specs.Restart.{IsRestart};
-ghost use Rattle.relay_calling.specs.Connections.{Turn};
+ghost use Rattle.relay_service.specs.Calling.Connections.{Turn};
 ghost use Rattle.relay_service.specs.Noting.{turn_of};
 ghost use Rattle.relay_service.specs.Resumed.{AreOfRestart};
 

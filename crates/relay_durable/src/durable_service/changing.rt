@@ -1,8 +1,8 @@
 //! What is done to the service: each call as the service's own, and behind it what its boards then have is noted.
 
 ghost use Rattle.std.specs.Prelude.{◌≡◌, ◌⊎◌, ◌+◌, ◌-◌, ◌^◌, IfOk, OnErr, OnOk, Some, is_some, true};
-ghost use Rattle.relay_calling.specs.Running.{was_pinged, was_sent_away};
-ghost use Rattle.relay_following.specs.Calls.{closed_by, pinged};
+ghost use Rattle.relay_service.specs.Calling.Running.{was_pinged, was_sent_away};
+ghost use Rattle.relay_service.specs.Following.Calls.{closed_by, pinged};
 ghost use Rattle.relay_frames.specs.declared.output.TheConstants.{MOST_OUTPUT};
 ghost use Rattle.relay_hall.specs.Runs.{Ends, Shuts, Time};
 ghost use Rattle.relay_service.specs.Calls.{AnswersAt, DisconnectsAt, FailsAt, LeavesAt, Loses, Passes, PushFailsAt, PushesAt, PutsAt, ReceivesAt, Replaces, SendsAt};
@@ -10,8 +10,8 @@ ghost use Rattle.relay_service.specs.Record.{opened};
 
 use crate::durable_service::{DurableService, note};
 use chained_lines::StableStorage;
-use relay_calling::laws::one_step_at_most;
 use relay_frames::Code;
+use relay_service::calling::laws::one_step_at_most;
 use std::alloc::AllocError;
 
 impl<S: StableStorage> DurableService<S> {

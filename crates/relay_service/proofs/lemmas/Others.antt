@@ -3,9 +3,9 @@ use Rattle.std.proofs.Common.{◌≡◌, ◌⊎◌, ℕ, nat_eq, List, Bool, tru
 use Rattle.std.specs.Prelude.{MatchOption}
 use Rattle.relay_hall.specs.declared.owner.Owner.{Owner}
 use Rattle.relay_hall.specs.Runs.{HallEvent}
-use Rattle.relay_calling.specs.Calling.{OperatorRecord}
-use Rattle.relay_calling.specs.Running.{Deed}
-use Rattle.relay_following.specs.Record.{ConnectionRecord}
+use Rattle.relay_service.specs.Calling.Answering.{OperatorRecord}
+use Rattle.relay_service.specs.Calling.Running.{Deed}
+use Rattle.relay_service.specs.Following.Record.{ConnectionRecord}
 use Rattle.relay_service.specs.declared.connection.Connection.{Connection}
 use Rattle.relay_service.specs.declared.connection.Connection.TheVariants.{Operator, Follower}
 use Rattle.relay_service.specs.Calls.{AnswersAt, Arrives, Departs, DisconnectsAt, Does, FailsAt, ForEach, Forgets, LeavesAt, Loses, OthersStay, Passes, PushFailsAt, PushesAt, PutsAt, Receives, ReceivesAt, Replaces, SendsAt, SendsIn, Serves, arrival}

@@ -1,8 +1,8 @@
 //! What is done to a connection that follows. Nothing is done to any other.
 
 ghost use Rattle.std.specs.Prelude.{◌≡◌, IfOk, OnErr, OnOk};
-ghost use Rattle.relay_following.specs.Calls.{Answers, Fails, after_feed, closed_by, delivers, pinged, wrote};
-ghost use Rattle.relay_following.specs.Record.{follows};
+ghost use Rattle.relay_service.specs.Following.Calls.{Answers, Fails, after_feed, closed_by, delivers, pinged, wrote};
+ghost use Rattle.relay_service.specs.Following.Record.{follows};
 ghost use Rattle.relay_service.specs.Calls.{IfFollows, PushFailsTo, PushesTo};
 ghost use Rattle.relay_service.specs.Inner.{IsJoined};
 

@@ -1,7 +1,7 @@
 //! What is done to connections that follow.
 
 ghost use Rattle.std.specs.Prelude.{◌≡◌, ◌-◌, ◌^◌, IfOk, OnErr, OnOk, is_some, true};
-ghost use Rattle.relay_following.specs.Calls.{Answers, Fails, after_feed, closed_by, delivers, pinged, wrote};
+ghost use Rattle.relay_service.specs.Following.Calls.{Answers, Fails, after_feed, closed_by, delivers, pinged, wrote};
 ghost use Rattle.relay_frames.specs.declared.output.TheConstants.{MOST_OUTPUT};
 ghost use Rattle.relay_service.specs.Calls.{PushFailsAt, PushesAt, Serves};
 ghost use Rattle.relay_service.specs.Record.{follower_at};

@@ -1,15 +1,15 @@
 //! What connections are sent.
 
 ghost use Rattle.std.specs.Prelude.{◌≡◌, OnErr, OnOk};
-ghost use Rattle.relay_calling.specs.Running.{was_pinged, was_sent_away};
-ghost use Rattle.relay_following.specs.Calls.{closed_by, pinged};
+ghost use Rattle.relay_service.specs.Calling.Running.{was_pinged, was_sent_away};
+ghost use Rattle.relay_service.specs.Following.Calls.{closed_by, pinged};
 ghost use Rattle.relay_service.specs.Calls.{IsServedAt, PutsAt, SendsAt};
 ghost use Rattle.relay_service.specs.Record.{due_at};
 
+use crate::calling::laws::however_many_there_are;
 use crate::connection::Connection;
 use crate::service::Service;
 use crate::turn::{NewDeed, NewTurn};
-use relay_calling::laws::however_many_there_are;
 use relay_frames::Code;
 use std::alloc::AllocError;
 

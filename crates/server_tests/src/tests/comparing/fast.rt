@@ -2,10 +2,10 @@
 
 use crate::tests::sessions::frames::{REQUEST, behind_head, lines};
 use live_board::Follower;
-use relay_calling::{OperatorConnection, Stage};
 use relay_core::Taken;
 use relay_hall::{Hall, Handed};
 use relay_server::{Bell, Outlet, PushEnd, SendFault, SessionEnd, Source, push_all};
+use relay_service::calling::{OperatorConnection, Stage};
 use std::alloc::Global;
 use std::process::Abort;
 use std::sync::Wait;

@@ -1,5 +1,5 @@
 use Rattle.std.proofs.Common.{rules, refl}
-use Rattle.relay_following.specs.Calls.{Answers, Fails}
+use Rattle.relay_service.specs.Following.Calls.{Answers, Fails}
 use Rattle.relay_service.specs.Inner.{service_of}
 use Rattle.relay_service.specs.Record.{ServiceRecord}
 use Rattle.relay_service.proofs.Followers.{answers_keeps, fails_keeps}

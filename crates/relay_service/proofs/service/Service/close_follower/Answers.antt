@@ -1,6 +1,6 @@
 use Rattle.std.proofs.Common.{rules, refl, ◌≡◌, sym, subst}
-use Rattle.relay_following.specs.Calls.{closed_by}
-use Rattle.relay_following.specs.Record.{ConnectionRecord}
+use Rattle.relay_service.specs.Following.Calls.{closed_by}
+use Rattle.relay_service.specs.Following.Record.{ConnectionRecord}
 use Rattle.relay_service.specs.Inner.{service_of}
 use Rattle.relay_service.specs.Record.{ServiceRecord}
 use Rattle.relay_service.proofs.Followers.{Keeps, closed_keeps}

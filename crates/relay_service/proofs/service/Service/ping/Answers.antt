@@ -1,7 +1,7 @@
 use Rattle.std.proofs.Common.{rules, refl}
 use Rattle.std.proofs.lemmas.Map.Steps.{set_value_same}
-use Rattle.relay_calling.specs.Calling.{pinged}
-use Rattle.relay_calling.specs.Running.{was_pinged}
+use Rattle.relay_service.specs.Calling.Answering.{pinged}
+use Rattle.relay_service.specs.Calling.Running.{was_pinged}
 use Rattle.relay_service.specs.Inner.{service_of}
 use Rattle.relay_service.specs.Record.{ServiceRecord}
 use Rattle.relay_service.proofs.Keeping.{keeps_as, kept, put_at}

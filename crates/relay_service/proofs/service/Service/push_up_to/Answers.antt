@@ -1,6 +1,6 @@
 use Rattle.std.proofs.Common.{rules, ap, refl}
 use Rattle.relay_hall.specs.Record.{HallRecord}
-use Rattle.relay_following.specs.Record.{follows}
+use Rattle.relay_service.specs.Following.Record.{follows}
 use Rattle.relay_service.specs.Calls.{PushFailsTo, PushesTo}
 use Rattle.relay_service.specs.Inner.{service_of}
 use Rattle.relay_service.specs.Record.{ServiceRecord}

@@ -1,8 +1,8 @@
 use Rattle.std.proofs.Common.{rules, refl, ap, ◌∙◌, ◌++◌, ◌∷◌, [], ℕ, List, inr}
 use Rattle.std.proofs.lemmas.Map.Steps.{set_value_same}
 use Rattle.relay_hall.specs.Record.{HallRecord}
-use Rattle.relay_calling.specs.Connections.{Turn, happens}
-use Rattle.relay_calling.specs.Running.{came}
+use Rattle.relay_service.specs.Calling.Connections.{Turn, happens}
+use Rattle.relay_service.specs.Calling.Running.{came}
 use Rattle.relay_service.specs.declared.connection.Connection.{Connection}
 use Rattle.relay_service.specs.Inner.{service_of}
 use Rattle.relay_service.specs.Record.{ServiceRecord}

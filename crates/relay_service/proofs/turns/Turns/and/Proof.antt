@@ -27,7 +27,7 @@ use denote.Triple.Entry.{on_entry, alive, Args}
 use denote.Triple.Spec.{Meets, triple_of}
 use denote.Triple.Table.{entered}
 use denote.Triple.Walked.{says, stay_none_ref, Stays, walk_of, Walks, ends_at, walked, Goes-none_ref, walk_Meets}
-use Rattle.relay_calling.specs.Connections.{Turn}
+use Rattle.relay_service.specs.Calling.Connections.{Turn}
 use Rattle.relay_service.specs.Noting.{turn_of}
 use Rattle.relay_service.specs.contracts.turns.Turns.and.Key.{name as key}
 use Rattle.relay_service.specs.contracts.turns.Turns.and as f

@@ -31,7 +31,7 @@ use denote.Triple.Walked.{says, needs, stay_none_ref, Stays, walk_of, Walks, end
 use Rattle.c960_game.specs.contracts.limits.Limits as limit_numbers
 use Rattle.relay_hall.specs.contracts.hall.Hall as made_again
 use Rattle.relay_hall.specs.Restart.{IsRestart}
-use Rattle.relay_calling.specs.Connections.{Turn}
+use Rattle.relay_service.specs.Calling.Connections.{Turn}
 use Rattle.relay_service.specs.Resumed.{passing}
 use Rattle.relay_service.specs.contracts.turns.Turns.of_restart.Key.{name as key}
 use Rattle.relay_service.specs.contracts.turns.Turns.of_restart as f

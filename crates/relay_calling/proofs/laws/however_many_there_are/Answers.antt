@@ -1,5 +1,0 @@
-use Rattle.relay_calling.proofs.Connections.{each_is_served}
-use Rattle.relay_calling.proofs.laws.however_many_there_are.Goals as goal
-
-pub returns : goal.returns
-returns c = each_is_served

@@ -1,5 +1,0 @@
-use Rattle.relay_calling.proofs.Sending.{never_answered}
-use Rattle.relay_calling.proofs.laws.one_that_is_through_is_never_answered.Goals as goal
-
-pub returns : goal.returns
-returns c = never_answered

@@ -1,4 +1,0 @@
-mod Hearing
-mod Pushes
-mod Served
-pub mod lemmas
