@@ -10,7 +10,7 @@ ghost use Rattle.relay_service.specs.Record.{follower_in, opened, operator_in, o
 
 mod following;
 
-use crate::bytes::Bytes;
+use crate::bytes::{Bytes, first_of};
 use crate::calling::laws::what_is_handed_over_was_told;
 use crate::calling::{OperatorConnection, Stage as OperatorStage};
 use crate::following::{FollowerConnection, Stage as FollowerStage};
@@ -70,13 +70,6 @@ fn stage_of_follower(stage: FollowerStage) -> Stage
         FollowerStage::Over(_) | FollowerStage::Cut | FollowerStage::Left | FollowerStage::Failed =>
             Stage::Leaves,
     }
-}
-
-/// The first `n` of these bytes, or all if they are fewer.
-fn first_of(bytes: &[u8], n: usize) -> Bytes
-    ensures { result.items ≡ take n bytes.now }
-{
-    Bytes::of(&bytes[..n.min(bytes.len())])
 }
 
 impl Connection {

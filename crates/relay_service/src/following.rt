@@ -1,7 +1,6 @@
 //! Connections that follow a board of a hall, one at a time. Bytes come in, bytes go out. A connection takes no lock, opens no socket,
 //! reads no clock and waits for nobody: its owner lends it the hall for a push.
 
-mod bytes;
 mod connection;
 mod delivery;
 pub mod laws;

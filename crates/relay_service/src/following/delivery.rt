@@ -1,6 +1,6 @@
 //! What is delivered to a connection of the board that it follows.
 
-ghost use Rattle.std.specs.Prelude.{◌≡◌, ◌++◌, [], cond, take, IfOk, None, OnErr, OnOk, Some};
+ghost use Rattle.std.specs.Prelude.{◌≡◌, ◌++◌, [], cond, IfOk, None, OnErr, OnOk, Some};
 ghost use Rattle.relay_frames.specs.Events.{number_of};
 ghost use Rattle.live_board.specs.Views.{next_of};
 ghost use Rattle.relay_service.specs.Following.Calls.{closes, is_full, left as left_as, puts, wrote};
@@ -11,7 +11,7 @@ ghost use Rattle.relay_service.specs.declared.following.stage.Stage.TheVariants.
 
 mod pushing;
 
-use crate::following::bytes::Bytes;
+use crate::bytes::{Bytes, first_of};
 use crate::following::new_piece::NewPiece;
 use crate::following::pieces::Pieces;
 use crate::following::stage::Stage;
@@ -47,13 +47,6 @@ impl Model for Delivery {
     ghost use Rattle.relay_service.specs.Following.DeliveryInner.{delivery_of};
 
     ghost view = { delivery_of };
-}
-
-/// The first `n` of these bytes, or all if they are fewer.
-fn first_of(bytes: &[u8], n: usize) -> Bytes
-    ensures { result.items ≡ take n bytes.now }
-{
-    Bytes::of(&bytes[..n.min(bytes.len())])
 }
 
 impl Delivery {

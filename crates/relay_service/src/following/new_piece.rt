@@ -1,6 +1,6 @@
 //! A piece of what a connection is sent that is about to be noted. Only clauses read what it tells.
 
-use crate::following::bytes::Bytes;
+use crate::bytes::Bytes;
 use c960_board::Move;
 use relay_core::Taken;
 use relay_frames::Code;

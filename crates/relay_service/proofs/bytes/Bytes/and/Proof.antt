@@ -28,11 +28,11 @@ use denote.Triple.Spec.{Meets, triple_of}
 use denote.Triple.Table.{entered}
 use denote.Triple.Walked.{says, stay_none_ref, Stays, walk_of, Walks, ends_at, walked, Goes-none_ref, walk_Meets}
 use Prim.Native.Nat.{ℕ}
-use Rattle.relay_service.specs.contracts.following.bytes.Bytes.and.Key.{name as key}
-use Rattle.relay_service.specs.contracts.following.bytes.Bytes.and as f
-use Rattle.relay_service.proofs.following.bytes.Bytes.and.Statement as stated
-use Rattle.relay_service.proofs.following.bytes.Bytes.and.Code as code
-use Rattle.relay_service.specs.contracts.following.bytes.Bytes as made
+use Rattle.relay_service.specs.contracts.bytes.Bytes.and.Key.{name as key}
+use Rattle.relay_service.specs.contracts.bytes.Bytes.and as f
+use Rattle.relay_service.proofs.bytes.Bytes.and.Statement as stated
+use Rattle.relay_service.proofs.bytes.Bytes.and.Code as code
+use Rattle.relay_service.specs.contracts.bytes.Bytes as made
 
 abbrev stayed : Stays (f.ended).signature.params (f.ended).kept
 stayed = (stay_none_ref (0 ∷ []) tt (plain (λ _. made.the_row)) yes, (stay_none_ref (1 ∷ []) tt (plain (λ _. made.the_row)) yes, tt))

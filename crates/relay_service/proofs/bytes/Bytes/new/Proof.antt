@@ -21,11 +21,11 @@ use denote.Triple.Entry.{on_entry, alive}
 use denote.Triple.Spec.{Meets, triple_of}
 use denote.Triple.Table.{entered}
 use denote.Triple.Walked.{says, Stays, walk_of, Walks, ends_at, walked, walk_Meets}
-use Rattle.relay_service.specs.contracts.following.bytes.Bytes.new.Key.{name as key}
-use Rattle.relay_service.specs.contracts.following.bytes.Bytes.new as f
-use Rattle.relay_service.proofs.following.bytes.Bytes.new.Statement as stated
-use Rattle.relay_service.proofs.following.bytes.Bytes.new.Code as code
-use Rattle.relay_service.specs.contracts.following.bytes.Bytes as made
+use Rattle.relay_service.specs.contracts.bytes.Bytes.new.Key.{name as key}
+use Rattle.relay_service.specs.contracts.bytes.Bytes.new as f
+use Rattle.relay_service.proofs.bytes.Bytes.new.Statement as stated
+use Rattle.relay_service.proofs.bytes.Bytes.new.Code as code
+use Rattle.relay_service.specs.contracts.bytes.Bytes as made
 
 abbrev stayed : Stays (f.ended).signature.params (f.ended).kept
 stayed = tt
