@@ -1,5 +1,5 @@
 -- What passes between the socket of a connection and the service.
-use Rattle.std.specs.Prelude.{◌≡◌, ◌≤◌, ◌⊎◌, ℕ, Bool, false, true, List, length, take, Option, None, Some, Result, Ok, Err}
+use Rattle.std.specs.Prelude.{◌≡◌, ◌≤◌, ◌⊎◌, ℕ, Bool, false, true, List, length, take, Result, Ok, Err}
 use Rattle.relay_durable.specs.Record.{DurableRecord, is_settled}
 use Rattle.relay_service.specs.Calls.{Loses, ReceivesAt, SendsIn}
 use Rattle.relay_service.specs.Record.{ServiceRecord, connection_at, due_at}
@@ -8,7 +8,6 @@ use Rattle.server_loop.specs.declared.socket.Delivery.{Delivery}
 use Rattle.server_loop.specs.declared.socket.Delivery.TheVariants as deliveries
 use Rattle.server_loop.specs.declared.socket.Intake.{Intake}
 use Rattle.server_loop.specs.declared.socket.Intake.TheVariants.{Bytes, Nothing, End, Failed}
-use Rattle.main_port.specs.declared.client.Client.{Client}
 
 -- what came is the first part of this piece, and the service received just that, from this number; if nothing came, it received nothing
 abbrev pub IsGiven : ServiceRecord → ℕ → List ℕ → Intake → ServiceRecord → Type 0
@@ -21,14 +20,10 @@ IsGiven s number piece Failed t = t ≡ s
 abbrev pub IsLost : ServiceRecord → ℕ → List ℕ → ServiceRecord → Type 0
 IsLost s number piece t = (t ≡ s) ⊎ ((n : ℕ) × Loses s number (take n piece) t)
 
+-- the service received from a number what was read
 abbrev pub IsRead : {E : Type 0} → ServiceRecord → ℕ → List ℕ → Result Intake E → ServiceRecord → Type 0
 IsRead s number piece (Ok intake) t = IsGiven s number piece intake t
 IsRead s number piece (Err e) t = IsLost s number piece t
-
--- the service received from a number what was read of the socket of that number; without the connection nothing was read
-abbrev pub IsReadFrom : {E : Type 0} → Option Client → ServiceRecord → ℕ → List ℕ → Result Intake E → ServiceRecord → Type 0
-IsReadFrom None s number piece result t = (result ≡ Ok Failed) × (t ≡ s)
-IsReadFrom (Some c) s number piece result t = IsRead s number piece result t
 
 -- some first part of what is due to a number was written to the socket of that number, and counted as sent to it, as much and no more
 pub record IsSent (s : ServiceRecord) (number : ℕ) (delivery : Delivery) (t : ServiceRecord) : Type 0 where
@@ -46,6 +41,5 @@ abbrev pub IsSentIf : {S : Type 0} → Bool → DurableRecord S → ℕ → Deli
 IsSentIf false d number delivery e = IsUnsent d delivery e
 IsSentIf true d number delivery e = (e.scribe ≡ d.scribe) × IsSent d.service number delivery e.service
 
-abbrev pub IsSentTo : {S : Type 0} → Option Client → DurableRecord S → ℕ → Delivery → DurableRecord S → Type 0
-IsSentTo None d number delivery e = IsUnsent d delivery e
-IsSentTo (Some c) d number delivery e = IsSentIf (is_settled d) d number delivery e
+abbrev pub IsSentTo : {S : Type 0} → DurableRecord S → ℕ → Delivery → DurableRecord S → Type 0
+IsSentTo d number delivery e = IsSentIf (is_settled d) d number delivery e

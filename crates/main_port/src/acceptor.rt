@@ -1,9 +1,10 @@
 //! Where newcomers come in, and how many were met.
 
-ghost use Rattle.std.specs.Prelude.{◌≡◌, false, true, not};
-ghost use Rattle.main_port.specs.Meeting.{OnlyMeets, failed_one, is_full, met_by, met_one, none_met};
+ghost use Rattle.std.specs.Prelude.{◌≡◌, ◌≤◌, ◌+◌, IfSome, false, true, not};
+ghost use Rattle.main_port.specs.Meeting.{OnlyMeets, failed_one, is_full, met_by, none_met};
 
 use crate::clients::Clients;
+use crate::serve_end::ServeEnd;
 use crate::settings::Settings;
 use crate::tally::Tally;
 use crate::watchers::Watchers;
@@ -108,7 +109,7 @@ impl<'a> Acceptor<'a> {
             }
             let arrival = self.next();
             self.lets_in(arrival, clients);
-            if clients.is_late(until) {
+            if clients.common.is_late(until) {
                 return;
             }
         }
@@ -123,26 +124,26 @@ impl<'a> Acceptor<'a> {
         ensures rest { OnlyMeets self.old self.new }
         ensures met { self.new.tally.met ≡ met_by arrival self.old.tally }
     {
-        match arrival {
+        let is_in = match arrival {
+            Arrival::Nobody => {
+                self.has_newcomers = false;
+                return;
+            }
             Arrival::Newcomer(stream) => {
-                self.meets();
                 self.heard_from = clients.now().saturating_add(1);
-                if clients.enters(stream) {
-                    self.is_short = false;
-                } else {
-                    self.fails(clients.rt);
-                }
+                clients.enters(stream)
             }
-            Arrival::TurnedAway => {
-                self.meets();
-                self.fails(clients.rt);
-            }
-            Arrival::Nobody => self.has_newcomers = false,
+            Arrival::TurnedAway => false,
             Arrival::Failed => {
-                self.meets();
-                self.fails(clients.rt);
                 self.opens_at = clients.now().saturating_add(RETRY_MILLIS);
+                false
             }
+        };
+        self.tally.meet();
+        if is_in {
+            self.is_short = false;
+        } else {
+            self.fails(clients.common.rt);
         }
     }
 
@@ -154,13 +155,6 @@ impl<'a> Acceptor<'a> {
             Some(listener) => listener.accept(),
             None => Arrival::Nobody,
         }
-    }
-
-    /// One was met.
-    fn meets(&mut self)
-        ensures { self.new ≡ record self.old { tally = met_one self.old.tally } }
-    {
-        self.tally.meet();
     }
 
     /// A newcomer was turned away. That is reported on standard error, unless the one before was, too.
@@ -217,12 +211,13 @@ impl<'a> Acceptor<'a> {
         }
     }
 
-    /// Who was met.
-    pub(crate) fn end(self) -> Tally
-        ensures tally { result ≡ self.entry.tally }
-        ensures all { self.entry.is_open ≡ false → self.entry.may_end ≡ false → is_full result ≡ true }
+    /// How serving ended.
+    pub(crate) fn end(self) -> ServeEnd
+        ensures met { result.served + result.failed ≡ self.entry.tally.met }
+        ensures failed { result.failed ≡ self.entry.tally.failed }
+        ensures most { IfSome self.entry.tally.most (λ n. result.served + result.failed ≤ n) }
+        ensures all { self.entry.is_open ≡ false → self.entry.may_end ≡ false → IfSome self.entry.tally.most (λ n. result.served + result.failed ≡ n) }
     {
-        let Acceptor { tally, .. } = self;
-        tally
+        self.tally.end()
     }
 }

@@ -1,7 +1,10 @@
 //! A connection, as the loop sees it: its socket, how far the loop is with it, and how long it is waited for.
 
+ghost use Rattle.std.specs.Prelude.{◌≡◌};
+
 use mio::net::TcpStream;
 use server_loop::Deadlines;
+use std::alloc::AllocError;
 use std::net::Shutdown;
 
 /// How many pieces a connection may send after everything was written to it.
@@ -49,10 +52,29 @@ pub(crate) enum Role {
     Other,
 }
 
+/// Why what is done for a connection ends before its time.
+#[derive(Clone, Copy, PartialEq, Eq)]
+pub(crate) enum Ends {
+    /// A board of it is as far ahead of those who follow it as it may be: it has another turn, after them.
+    FarAhead,
+    /// There was no memory for it. What was due before is sent as far as it takes that, and it goes.
+    OutOfMemory,
+    /// It goes.
+    Gone,
+}
+
+impl From<AllocError> for Ends {
+    fn from(_: AllocError) -> Ends {
+        Ends::OutOfMemory
+    }
+}
+
 /// A connection.
 #[derive(Drop)]
 pub(crate) struct Client {
     pub(crate) stream: TcpStream,
+    /// The number that the service has for it, from its coming on.
+    number: u64,
     pub(crate) deadlines: Deadlines,
     pub(crate) state: State,
     pub(crate) input: Input,
@@ -65,9 +87,12 @@ pub(crate) struct Client {
 
 impl Client {
     /// A newcomer, from which nothing has come yet.
-    pub(crate) fn new(stream: TcpStream, now: u64) -> Client {
+    pub(crate) fn new(stream: TcpStream, number: u64, now: u64) -> Client
+        ensures { result.number ≡ number }
+    {
         Client {
             stream,
+            number,
             deadlines: Deadlines::new(now),
             state: State::Comes,
             input: Input::Nothing,
@@ -77,14 +102,21 @@ impl Client {
         }
     }
 
+    /// The number that the service has for it.
+    pub(crate) fn number(&self) -> u64
+        ensures { result ≡ self.now.number }
+    {
+        self.number
+    }
+
     /// Whether its connection did not take what is due.
     pub(crate) fn is_blocked(&self) -> bool {
         self.deadlines.waits_since.is_some()
     }
 
-    /// Whether it follows, and its connection takes what it is sent.
-    pub(crate) fn takes_moves(&self) -> bool {
-        matches!(self.role, Role::Follower(_)) && !self.is_blocked()
+    /// Whether it follows a board.
+    pub(crate) fn follows(&self) -> bool {
+        matches!(self.role, Role::Follower(_))
     }
 
     /// Whether what comes from it is read now.
@@ -113,6 +145,15 @@ impl Client {
     pub(crate) fn has_paused(&mut self) {
         self.state = State::Talks;
         self.refused = 0;
+    }
+
+    /// It is not answered before what is due is written. The rest of a message of one that follows is not waited for meanwhile: what is due
+    /// to it is not its own doing.
+    pub(crate) fn waits_for_room(&mut self) {
+        self.state = State::Full;
+        if self.follows() {
+            self.deadlines.silence.owes_no_rest();
+        }
     }
 
     /// Something came from it, and was answered. After a message its time begins again. The rest of a message is waited for only once

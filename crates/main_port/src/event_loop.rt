@@ -1,11 +1,11 @@
 //! The turns of the loop.
 
-ghost use Rattle.std.specs.Prelude.{◌≡◌, false, true, Some, IfErr, IfOk, is_err, is_some};
-ghost use Rattle.main_port.specs.Meeting.{IsOfTheSame, has_failed, is_full};
+ghost use Rattle.std.specs.Prelude.{◌≡◌, ◌≤◌, ◌+◌, false, true, Some, IfErr, IfOk, IfSome, is_err, is_some};
+ghost use Rattle.main_port.specs.Meeting.{IsOfTheSame, has_failed};
 
 use crate::acceptor::Acceptor;
 use crate::clients::Clients;
-use crate::tally::Tally;
+use crate::serve_end::ServeEnd;
 use crate::watchers::Watchers;
 use server_loop::{MOST_EVENTS, Poller};
 use std::io;
@@ -28,8 +28,8 @@ const TICK_MILLIS: u64 = 1000;
 /// How many milliseconds later it is told at the most, while there is somebody to be heard first.
 const MOST_LATE_MILLIS: u64 = 1000;
 
-/// How many seconds connections have to leave once serving is to end.
-const MOST_LEAVING_SECONDS: u64 = 4;
+/// How many milliseconds connections have to leave once serving is to end.
+const MOST_LEAVING_MILLIS: u64 = 4000;
 
 /// The loop. In a turn it reads and answers who is due, sends the answers, and pushes the moves of boards that have changed; then it tells
 /// the time and accepts newcomers.
@@ -49,18 +49,18 @@ pub(crate) struct EventLoop<'a, R, W> {
     late_since: Option<u64>,
     /// Whether nobody can come back any more.
     is_shut: bool,
-    /// When the loop ends even if connections remain, once serving is to end.
-    ends_at: Option<Duration>,
+    /// The millisecond in which the loop ends even if connections remain, once serving is to end.
+    ends_at: Option<u64>,
 }
 
 impl<'a, R: Wait + Clock, W: Watchers> EventLoop<'a, R, W> {
     /// The loop that serves these connections, and whoever comes in here.
     pub(crate) fn new(clients: Clients<'a, R, W>, acceptor: Acceptor<'a>) -> EventLoop<'a, R, W>
         ensures acceptor { result.acceptor ≡ acceptor.entry }
-        ensures journal { result.has_journal ≡ is_some clients.entry.service.scribe }
+        ensures journal { result.has_journal ≡ is_some clients.entry.common.service.scribe }
     {
         EventLoop {
-            has_journal: clients.has_journal(),
+            has_journal: clients.common.has_journal(),
             clients,
             acceptor,
             reported_by: 0,
@@ -72,13 +72,14 @@ impl<'a, R: Wait + Clock, W: Watchers> EventLoop<'a, R, W> {
         }
     }
 
-    /// Turns until the end. Returns who was met, or why the journal failed, and those who watch.
-    pub(crate) fn run(mut self, poller: &mut Poller) -> (io::Result<Tally>, W)
-        ensures most { IfOk result.0 (λ tally. tally.most ≡ self.entry.acceptor.tally.most) }
-        ensures all { self.entry.acceptor.may_end ≡ false → IfOk result.0 (λ tally. is_full tally ≡ true) }
+    /// Turns until the end. Returns how that was, or why the journal failed, and those who watch.
+    pub(crate) fn run(mut self, poller: &mut Poller) -> (io::Result<ServeEnd>, W)
+        ensures most { IfOk result.0 (λ end. IfSome self.entry.acceptor.tally.most (λ n. end.served + end.failed ≤ n)) }
+        ensures all { self.entry.acceptor.may_end ≡ false
+            → IfOk result.0 (λ end. IfSome self.entry.acceptor.tally.most (λ n. end.served + end.failed ≡ n)) }
         ensures failed { IfErr result.0 (λ error. self.entry.has_journal ≡ true) }
     {
-        let rt = self.clients.rt;
+        let rt = self.clients.common.rt;
         for _ in rt.forever() {
             if poller.wait(self.patience()).is_err() {
                 let _ = sleep(rt, Duration::from_millis(PAUSE_MILLIS));
@@ -96,23 +97,19 @@ impl<'a, R: Wait + Clock, W: Watchers> EventLoop<'a, R, W> {
             return Duration::ZERO;
         }
         let now = self.clients.now();
+        let told = if self.clients.common.are_told {
+            TURN_MILLIS
+        } else {
+            UNTOLD_MILLIS
+        };
         // There may be somebody to be heard before the hall is told the time.
         let ticks = self.ticks_at.saturating_sub(now).max(1);
-        let mut most = Duration::from_millis(TURN_MILLIS.min(ticks));
-        if let Some(ends_at) = self.ends_at {
-            most = most.min(ends_at.saturating_sub(self.clients.passed()));
-        }
-        if !self.clients.has_told_watchers() {
-            most = most.min(Duration::from_millis(UNTOLD_MILLIS));
-        }
-        if let Some(accepts) = self.acceptor.accepts_in(now) {
-            most = most.min(Duration::from_millis(accepts));
-        }
-        if let Some(pause) = self.clients.next_pause() {
-            // The system waits in whole milliseconds, and this one has begun.
-            most = most.min(Duration::from_millis(pause.saturating_add(1)));
-        }
-        most
+        let ends = self.ends_at.unwrap_or(u64::MAX).saturating_sub(now);
+        let accepts = self.acceptor.accepts_in(now).unwrap_or(u64::MAX);
+        let pauses = self.clients.common.backoff.next_in(now);
+        // The system waits in whole milliseconds, and this one has begun.
+        let pauses = pauses.unwrap_or(u64::MAX).saturating_add(1);
+        Duration::from_millis(told.min(ticks).min(ends).min(accepts).min(pauses))
     }
 
     /// Tells the hall the time, once a second and when boards have waited long enough. Boards that begin to wait meanwhile do so for a
@@ -162,15 +159,16 @@ impl<'a, R: Wait + Clock, W: Watchers> EventLoop<'a, R, W> {
     /// journal has failed: nobody can be told anything any more.
     fn take(&mut self, poller: &Poller) -> bool
         ensures same { IsOfTheSame self.old.acceptor self.new.acceptor }
-        ensures last { result ≡ true → has_failed self.new.has_journal self.new.clients.journal_failure ≡ false
+        ensures last { result ≡ true → has_failed self.new.has_journal self.new.clients.common.journal_failure ≡ false
             → self.new.acceptor.is_open ≡ false }
-        ensures failed { has_failed self.new.has_journal self.new.clients.journal_failure ≡ true → result ≡ true }
+        ensures failed { has_failed self.new.has_journal self.new.clients.common.journal_failure ≡ true → result ≡ true }
         ensures journal { self.new.has_journal ≡ self.old.has_journal }
     {
+        let rt = self.clients.common.rt;
         let asked = self.clients.now();
         // This comes before looking: whoever wakes the loop from now on wakes it again.
         poller.waker().reset();
-        self.clients.look_at_clock();
+        self.clients.common.clock.look(rt);
         // What the system reports now may have come right after it was asked the time before, or earlier if it left something out then.
         let report = self.clients.note(poller.events(), self.reported_by);
         if report.has_newcomers {
@@ -192,65 +190,53 @@ impl<'a, R: Wait + Clock, W: Watchers> EventLoop<'a, R, W> {
         }
         let is_over = self.ends_if_over();
         // Boards may have ended by themselves since the answers were sent.
-        self.clients.wake_watchers();
+        self.clients.common.wake_watchers();
         is_over || self.has_failed()
     }
 
     /// Whether the journal has failed.
     fn has_failed(&self) -> bool
-        ensures { result ≡ has_failed self.now.has_journal self.now.clients.journal_failure }
+        ensures { result ≡ has_failed self.now.has_journal self.now.clients.common.journal_failure }
     {
-        self.has_journal && self.clients.journal_failure.is_some()
+        self.has_journal && self.clients.common.journal_failure.is_some()
     }
 
     // ---- The end.
 
-    /// Does what is due at the end. Returns whether that is over.
+    /// Does what is due at the end. Returns whether that is over. Once serving is to end, all boards are ended, or kept, connections are
+    /// told, and then waited for.
     fn ends_if_over(&mut self) -> bool
         ensures same { IsOfTheSame self.old.acceptor self.new.acceptor }
         ensures over { result ≡ true → self.new.acceptor.is_open ≡ false }
         ensures journal { self.new.has_journal ≡ self.old.has_journal }
     {
-        let rt = self.clients.rt;
+        let rt = self.clients.common.rt;
         if !self.acceptor.closes_if_over(rt) {
             return false;
         }
         let is_ending = self.acceptor.is_ending();
-        if !self.is_shut && (is_ending || !self.clients.has_coming()) {
+        if !self.is_shut && (is_ending || self.clients.common.coming == 0) {
             self.is_shut = true;
             self.clients.shut();
         }
-        if is_ending {
-            return self.ends_all();
+        let now = self.clients.now();
+        if is_ending && self.ends_at.is_none() {
+            self.clients.end_all();
+            self.ends_at = Some(now.saturating_add(MOST_LEAVING_MILLIS));
         }
-        self.clients.is_empty()
+        self.clients.each.is_empty() || now >= self.ends_at.unwrap_or(u64::MAX)
     }
 
-    /// Serving is to end. All boards are ended, or kept, connections are told, and then waited for. Returns whether this is over.
-    fn ends_all(&mut self) -> bool
-        ensures same { self.new.acceptor ≡ self.old.acceptor }
-        ensures journal { self.new.has_journal ≡ self.old.has_journal }
-    {
-        let now = self.clients.passed();
-        let ends_at = match self.ends_at {
-            Some(ends_at) => ends_at,
-            None => {
-                self.clients.end_all();
-                self.clients.tell_of_the_end();
-                now.saturating_add(Duration::from_secs(MOST_LEAVING_SECONDS))
-            }
-        };
-        self.ends_at = Some(ends_at);
-        self.clients.is_empty() || now >= ends_at
-    }
-
-    /// Who was met, or why the journal failed, and those who watch.
-    fn end(self) -> (io::Result<Tally>, W)
-        ensures tally { IfOk result.0 (λ tally. tally ≡ self.entry.acceptor.tally) }
-        ensures failed { is_err result.0 ≡ has_failed self.entry.has_journal self.entry.clients.journal_failure }
-        ensures reason { IfErr result.0 (λ error. self.entry.clients.journal_failure ≡ Some error) }
-        ensures all { (has_failed self.entry.has_journal self.entry.clients.journal_failure ≡ false → self.entry.acceptor.is_open ≡ false)
-            → self.entry.acceptor.may_end ≡ false → IfOk result.0 (λ tally. is_full tally ≡ true) }
+    /// How serving ended, or why the journal failed, and those who watch.
+    fn end(self) -> (io::Result<ServeEnd>, W)
+        ensures met { IfOk result.0 (λ end. end.served + end.failed ≡ self.entry.acceptor.tally.met) }
+        ensures turned_away { IfOk result.0 (λ end. end.failed ≡ self.entry.acceptor.tally.failed) }
+        ensures most { IfOk result.0 (λ end. IfSome self.entry.acceptor.tally.most (λ n. end.served + end.failed ≤ n)) }
+        ensures failed { is_err result.0 ≡ has_failed self.entry.has_journal self.entry.clients.common.journal_failure }
+        ensures reason { IfErr result.0 (λ error. self.entry.clients.common.journal_failure ≡ Some error) }
+        ensures all { (has_failed self.entry.has_journal self.entry.clients.common.journal_failure ≡ false → self.entry.acceptor.is_open ≡ false)
+            → self.entry.acceptor.may_end ≡ false
+            → IfOk result.0 (λ end. IfSome self.entry.acceptor.tally.most (λ n. end.served + end.failed ≡ n)) }
     {
         let EventLoop {
             acceptor,

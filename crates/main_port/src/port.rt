@@ -1,14 +1,14 @@
 //! The main port, and how it is served.
 
 ghost use Rattle.std.specs.Prelude.{◌≡◌, ◌≤◌, ◌+◌, IfErr, IfOk, IfSome, false, is_some, true};
-ghost use Rattle.main_port.specs.Meeting.{is_full};
 
 use crate::acceptor::Acceptor;
-use crate::clients::{Clients, Room};
+use crate::boards::Boards;
+use crate::clients::Clients;
+use crate::common::{Common, MOST_UNSENT_WITH_JOURNAL};
 use crate::event_loop::EventLoop;
 use crate::serve_end::ServeEnd;
 use crate::settings::Settings;
-use crate::tally::Tally;
 use crate::watchers::Watchers;
 use chained_lines::StableFile;
 use mio::Registry;
@@ -29,7 +29,9 @@ use std::time::Clock;
 pub struct MainPort {
     alloc: Global,
     settings: Settings,
-    room: Room,
+    /// What the loop knows of boards, and the room for answers that have yet to be sent: taken before anybody is served.
+    boards: Boards,
+    unsent: Vec<u64>,
     poller: Poller,
     /// The same, for whoever registers connections.
     registry: Registry,
@@ -65,7 +67,8 @@ impl MainPort {
         Ok(MainPort {
             alloc,
             settings: *settings,
-            room: Room::new(alloc, &settings.limits)?,
+            boards: Boards::new(alloc, &settings.limits)?,
+            unsent: Vec::with_capacity(alloc, MOST_UNSENT_WITH_JOURNAL)?,
             listener: Listener::new(listener, poller.registry(), LISTENER)?,
             registry: poller.registry().try_clone()?,
             poller,
@@ -108,23 +111,19 @@ impl MainPort {
         ensures all { self.until_input_ends ≡ false → IfOk result.0 (λ end. IfSome self.most (λ n. end.served + end.failed ≡ n)) }
         ensures failed { IfErr result.0 (λ error. is_some service.scribe ≡ true) }
     {
-        let (met, watchers) = self.serve(rt, service, watchers, &log);
+        let ended = self.serve(rt, service, watchers, &log);
         log.end(rt);
-        let end = match met {
-            Ok(tally) => Ok(tally.end()),
-            Err(error) => Err(error),
-        };
-        (end, watchers)
+        ended
     }
 
-    /// The same, but the log goes on. Returns who was met.
+    /// The same, but the log goes on.
     fn serve<R, W>(
         self,
         rt: &R,
         service: DurableService<StableFile>,
         watchers: W,
         log: &Log,
-    ) -> (io::Result<Tally>, W)
+    ) -> (io::Result<ServeEnd>, W)
     where
         R: Input<Reader = StdinLock<'static>>
             + Threads
@@ -135,14 +134,15 @@ impl MainPort {
             + Drop
             + 'static,
         W: Watchers + Drop,
-        ensures most { IfOk result.0 (λ tally. tally.most ≡ self.most) }
-        ensures all { self.until_input_ends ≡ false → IfOk result.0 (λ tally. is_full tally ≡ true) }
+        ensures most { IfOk result.0 (λ end. IfSome self.most (λ n. end.served + end.failed ≤ n)) }
+        ensures all { self.until_input_ends ≡ false → IfOk result.0 (λ end. IfSome self.most (λ n. end.served + end.failed ≡ n)) }
         ensures failed { IfErr result.0 (λ error. is_some service.scribe ≡ true) }
     {
         let MainPort {
             alloc,
             settings,
-            room,
+            boards,
+            unsent,
             mut poller,
             registry,
             listener,
@@ -155,9 +155,8 @@ impl MainPort {
         {
             has_input_ended.store(true, Ordering::SeqCst);
         }
-        let clients = Clients::new(
-            rt, alloc, service, &settings, room, registry, clock, watchers, log,
-        );
+        let common = Common::new(rt, alloc, service, &settings, boards, clock, watchers, log);
+        let clients = Clients::new(common, registry, unsent);
         let acceptor = Acceptor::new(listener, &settings, &has_input_ended, log);
         EventLoop::new(clients, acceptor).run(&mut poller)
     }

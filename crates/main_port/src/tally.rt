@@ -1,6 +1,6 @@
 //! How many connections were met.
 
-ghost use Rattle.std.specs.Prelude.{◌≡◌, ◌≤◌, ◌+◌, IfSome};
+ghost use Rattle.std.specs.Prelude.{◌≡◌, ◌≤◌, ◌+◌, IfSome, true};
 ghost use Rattle.main_port.specs.Meeting.{failed_one, is_full, met_one, none_met};
 
 use crate::serve_end::ServeEnd;
@@ -77,7 +77,8 @@ impl Tally {
     pub(crate) fn end(&self) -> ServeEnd
         ensures met { result.served + result.failed ≡ self.now.met }
         ensures failed { result.failed ≡ self.now.failed }
-        ensures few { IfSome self.now.most (λ most. self.now.met ≤ most) }
+        ensures most { IfSome self.now.most (λ n. result.served + result.failed ≤ n) }
+        ensures all { is_full self.now ≡ true → IfSome self.now.most (λ n. result.served + result.failed ≡ n) }
     {
         ServeEnd {
             served: self.met - self.failed,

@@ -1,5 +1,0 @@
-use Rattle.main_port.specs.Others.{AllStay}
-use Rattle.main_port.proofs.clients.Clients.gather.Given as goal
-
-abbrev pub invariant-loop : goal.invariant-loop
-invariant-loop g l = AllStay l.initial.self.clients.entries l.self.clients.entries

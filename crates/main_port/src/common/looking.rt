@@ -1,0 +1,121 @@
+//! What is done for a connection as time passes.
+
+use super::Common;
+use crate::client::{Client, Ends, Input, Role, State};
+use crate::watchers::Watchers;
+use relay_hall::Shown;
+use relay_service::Stage;
+use server_loop::{Stage as Waited, Times, Verdict};
+use std::sync::Wait;
+use std::time::Clock;
+
+impl<'a, R: Wait + Clock, W: Watchers> Common<'a, R, W> {
+    /// Does what is due for a connection by this millisecond.
+    pub(super) fn look_at(&mut self, client: &mut Client, now: u64) -> Result<(), Ends> {
+        if client.is_queued {
+            // What it is waited for may have come, and have yet to be read.
+            return Ok(());
+        }
+        let waited = self.waited(client);
+        let most_idle = if client.role == Role::Other {
+            self.most_idle
+        } else {
+            None
+        };
+        match client
+            .deadlines
+            .verdict(&Times::MAIN_PORT, now, waited, most_idle)
+        {
+            Verdict::Stays | Verdict::Tries => self.remembers(client),
+            Verdict::Ping => self.ping(client),
+            Verdict::Idle => self.drops_idle(client, now),
+            Verdict::Stuck | Verdict::Gone => Err(Ends::Gone),
+        }
+    }
+
+    /// What a connection is waited for.
+    fn waited(&self, client: &Client) -> Waited {
+        match client.state {
+            State::Drains(_) => return Waited::Drains,
+            State::InputClosed => return Waited::Leaves,
+            _ => {}
+        }
+        match self.service.stage(client.number()) {
+            Some(Stage::Comes) => Waited::Comes,
+            Some(Stage::Asks) => Waited::Asks,
+            Some(Stage::Follows) => Waited::Follows,
+            Some(Stage::Leaves) | None => Waited::Leaves,
+        }
+    }
+
+    /// Sends a connection a ping.
+    fn ping(&mut self, client: &mut Client) -> Result<(), Ends> {
+        if self.service.ping(client.number()).is_err() {
+            return Err(Ends::Gone);
+        }
+        self.send(client)
+    }
+
+    /// A connection has sent no message for too long. It goes, unless a board belongs to it.
+    fn drops_idle(&mut self, client: &mut Client, now: u64) -> Result<(), Ends> {
+        let role = self.role(client.number(), Role::Other);
+        if let Role::Owner(_) = role {
+            client.role = role;
+            client.deadlines.begins(now);
+            return Ok(());
+        }
+        self.close(client)
+    }
+
+    /// Gives a connection the turn for which there was no memory when it became due, if that is so: something has come from it, or it is
+    /// behind its board, whose game may be over. One that follows whose connection takes nothing takes no moves, and so does not learn that
+    /// it was cut off: if it must have been, it takes everything that is left to it, and its slot on the board is free.
+    fn remembers(&mut self, client: &mut Client) -> Result<(), Ends> {
+        let behind = self.behind(client.number());
+        if client.is_blocked() {
+            if behind > self.capacity {
+                self.service.push_all(client.number())?;
+                self.notes_role(client)?;
+            }
+        } else if client.input != Input::Nothing && client.is_read()
+            || client.state == State::Interrupted
+            || behind > 0
+            || self.is_due_the_end(client.number())
+        {
+            self.stands_due(client);
+        }
+        Ok(())
+    }
+
+    /// Whether a connection has yet to take the end of its board's game, if it follows one: behind that it follows no more.
+    fn is_due_the_end(&self, number: u64) -> bool {
+        self.service.stage(number) == Some(Stage::Follows)
+            && self
+                .followed(number)
+                .is_some_and(|shown| shown.outcome().is_some())
+    }
+
+    /// How many moves of its board a connection has yet to take, if it follows one.
+    fn behind(&self, number: u64) -> u64 {
+        let Some(next) = self.service.next(number) else {
+            return 0;
+        };
+        let plies = self.followed(number).map_or(0, |shown| shown.plies());
+        u64::from(plies).saturating_sub(next)
+    }
+
+    /// The board that a connection follows, if it follows one.
+    fn followed(&self, number: u64) -> Option<Shown<'_>> {
+        self.service.hall().board(self.service.place(number)?)
+    }
+
+    /// Serving ends: one that asks is told so, and with a journal, whose games go on at the next start, one that follows too.
+    pub(super) fn tell_of_the_end(&mut self, client: &mut Client) -> Result<(), Ends> {
+        match self.waited(client) {
+            Waited::Comes => Err(Ends::Gone),
+            Waited::Asks => self.close(client),
+            Waited::Follows if self.has_journal() => self.close(client),
+            Waited::Follows | Waited::Leaves | Waited::Drains => Ok(()),
+        }
+    }
+}
