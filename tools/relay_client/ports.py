@@ -31,18 +31,23 @@ def is_taken_aside(port):
     return True
 
 
+def is_free(port):
+    with socket.socket() as probe:
+        try:
+            probe.bind(("127.0.0.1", port))
+        except OSError:
+            return False
+    return True
+
+
 def free_port():
     """A port that is free at present. It is none of those that the system gives to connections, if it leaves others, so a server that
     is restarted finds its port free."""
     first = int(pathlib.Path("/proc/sys/net/ipv4/ip_local_port_range").read_text().split()[0])
     while True:
         port = random.randrange(20000, first if first > 21000 else 65536)
-        with socket.socket() as probe:
-            try:
-                probe.bind(("127.0.0.1", port))
-            except OSError:
-                continue
-        if is_taken_aside(port):
+        # In this order: who tries a port holds it, and that of another is not to be held while its server comes up.
+        if is_taken_aside(port) and is_free(port):
             return port
 
 
