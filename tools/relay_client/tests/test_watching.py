@@ -475,7 +475,10 @@ class Limits(unittest.TestCase):
         moves = list(moves_without_a_draw())
         with Server("--forever", "--watch-threads", "1", watch=True) as server:
             owner = owner_of(server)
-            held, taken = len(list(open_descriptors(server))), []
+            # Once the loop has answered somebody, it has all that it holds, and him.
+            first, _ = spectator_of(server, place=0)
+            held, taken = len(list(open_descriptors(server))) - 1, []
+            first.close()
             texts = play(owner, moves[:20])
             for place in range(20, 26):
                 crowd = [spectator_of(server, place=0)[0] for _ in range(CROWD)]
