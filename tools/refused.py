@@ -2,9 +2,9 @@
 """Tries the wrong bodies of crates/NAME/refused/: refused.py [NAME..]
 
 Each is a small edit of the code that the prover must refuse (tools/edits.py has the form). A copy of the crate with edits of different
-functions is checked over the libraries below, and of it the edited functions alone with what they call (`rattle check --only`). An edit of
-one body changes no other function's statement, so what is said of the edited function is what a check of the whole crate would say, if the
-crate is proved without the edit.
+functions is checked over the libraries below, and of it the edited functions alone with what they call (`rattle check --only`), as far as
+no earlier copy has shown that. An edit of one body changes no other function's statement, so what is said of the edited function is what a
+check of the whole crate would say, if the crate is proved without the edit.
 
 An edit is refused if a function that it changes has an open goal of its own. That it calls one which is not proved does not count. Of a
 constant or a table the goal may stand in a lemma on which the function rests that the edit names. An edit fails if all of them are proved,
@@ -35,6 +35,8 @@ from workplace import link_or_copy, scratch_folder, width_of_machine
 # Beside other proofs it may wait for a processor as long as they take.
 MOST_IN_COPY = 12
 SECONDS_OF_COPY = 1500
+# Of how many crates it is kept what checks have proved of them. That of the largest takes half a gigabyte.
+MOST_KEPT = 4
 # How many checks run beside `rt ci`, which has the processors to itself until it leaves some idle.
 WIDTH_BESIDE = 2
 NICENESS = 10
@@ -97,12 +99,62 @@ def why_not(output, edit, status):
     return f"{', '.join(edit.functions)}: {'; '.join(lines)[:300]}"
 
 
+class KeptProofs:
+    """What checks of copies have proved of each crate. What an edited function calls stands alike in all copies, so each check but the
+    first of a crate begins with what one before it has left, and proves only what its own edits change. The first one is waited for."""
+
+    def __init__(self, scratch):
+        self.scratch, self.kept, self.firsts, self.count = scratch, {}, {}, 0
+        self.lending = threading.Lock()
+
+    @contextlib.contextmanager
+    def lent(self, name):
+        """A folder with what is kept of the crate, for one check. What is in it afterwards is kept in its place."""
+        with self.lending:
+            first = self.firsts.setdefault(name, threading.Lock())
+        with first:
+            own, is_first = self.begun(name)
+            if is_first:
+                yield own
+                self.keep(name, own)
+        if not is_first:
+            yield own
+            self.keep(name, own)
+
+    def begun(self, name):
+        """A folder of its own for a check, and whether it is empty since nothing is kept."""
+        with self.lending:
+            self.count += 1
+            own = self.scratch / f"{name}-proved-{self.count}"
+            if name not in self.kept:
+                own.mkdir()
+                return own, True
+            shutil.copytree(self.kept[name], own, copy_function=link_proof)
+            return own, False
+
+    def keep(self, name, own):
+        """Keeps a folder, and no more of them than the room for them allows: of the crates that were tried last."""
+        with self.lending:
+            gone = [self.kept.pop(name)] if name in self.kept else []
+            self.kept[name] = own
+            while len(self.kept) > MOST_KEPT:
+                gone.append(self.kept.pop(next(iter(self.kept))))
+        for it in gone:
+            shutil.rmtree(it, ignore_errors=True)
+
+
+def link_proof(source, target):
+    """Links a checked module, which the checker replaces and never changes, and copies any other file."""
+    (link_or_copy if source.endswith(".oantt") else shutil.copy2)(source, target)
+
+
 class Trial:
     """Tries copies of crates, each in a folder of its own, over the libraries that a maker has."""
 
     def __init__(self, crates, scratch, library_of):
         self.crates, self.scratch, self.library_of = crates, scratch, library_of
         self.verdicts, self.printing, self.count = [], threading.Lock(), 0
+        self.proved = KeptProofs(scratch)
         ROOMS.add(scratch)
 
     def check(self, name, copy):
@@ -118,7 +170,8 @@ class Trial:
         words = check_words(self.crates, name, self.library_of)
         only = [word for it in copy.functions() for word in ("--only", it)]
         try:
-            return ended([*words, *only], room)
+            with self.proved.lent(name) as lent:
+                return ended([*words, *only, "--incremental", str(lent)], room)
         finally:
             shutil.rmtree(room, ignore_errors=True)
 

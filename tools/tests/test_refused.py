@@ -201,6 +201,54 @@ class Time(unittest.TestCase):
         self.assertIn(status, (-signal.SIGXCPU, -signal.SIGKILL))
 
 
+class Kept(Scene):
+    """What one check has proved is there for the next ones of its crate."""
+
+    def names(self, folder):
+        return sorted(it.name for it in folder.iterdir())
+
+    def test_each_check_but_the_first_begins_with_what_one_before_it_has_left(self):
+        proofs = refused.KeptProofs(self.top)
+        for before, name in (([], "a.oantt"), (["a.oantt"], "b.oantt"), (["a.oantt", "b.oantt"], "list")):
+            with proofs.lent("numbers") as folder:
+                self.assertEqual(self.names(folder), before)
+                (folder / name).write_text(name)
+        with proofs.lent("letters") as folder:
+            self.assertEqual(self.names(folder), [])
+
+    def test_a_check_changes_nothing_of_what_another_works_with(self):
+        proofs = refused.KeptProofs(self.top)
+        with proofs.lent("numbers") as folder:
+            (folder / "list").write_text("one")
+        with proofs.lent("numbers") as one, proofs.lent("numbers") as other:
+            (one / "list").write_text("another")
+            self.assertEqual((other / "list").read_text(), "one")
+
+    def test_the_first_check_of_a_crate_is_waited_for(self):
+        proofs, seen = refused.KeptProofs(self.top), []
+
+        def second():
+            with proofs.lent("numbers") as folder:
+                seen.append(self.names(folder))
+        with proofs.lent("numbers") as folder:
+            waiting = threading.Thread(target=second)
+            waiting.start()
+            with proofs.lent("letters"):
+                (folder / "a.oantt").write_text("checked")
+        waiting.join()
+        self.assertEqual(seen, [["a.oantt"]])
+
+    def test_of_few_crates_it_is_kept(self):
+        proofs = refused.KeptProofs(self.top)
+        for name in ("numbers", *map(str, range(refused.MOST_KEPT))):
+            with proofs.lent(name) as folder:
+                (folder / "a.oantt").write_text("checked")
+        self.assertFalse(list(self.top.glob("numbers-proved-*")))
+        for name, kept in (("numbers", []), (str(refused.MOST_KEPT - 1), ["a.oantt"])):
+            with proofs.lent(name) as folder:
+                self.assertEqual(self.names(folder), kept, name)
+
+
 class Libraries(Scene):
     def test_they_are_linked_away_until_nobody_needs_one_any_more(self):
         """Else their folder, which goes then, would be made again by one that is proved later."""
