@@ -28,9 +28,11 @@ BY_RT = "--by-rt"
 SECONDS_BETWEEN_REPORTS = 30
 # By how much all but the crate with the longest way stand back for processors.
 NICENESS = 10
-# Than which part of the longest way that of a crate is shorter that can wait, and how many jobs it has at most.
+# Than which part of the longest way that of a crate is shorter that can wait.
 SHARE_OF_THOSE_THAT_CAN_WAIT = 0.6
-JOBS_OF_THOSE_THAT_CAN_WAIT = 2
+# How many jobs a crate has at most beside another that cannot wait: the one with the longest way, and one that can wait no more than that.
+# Each job loads anew what the proof rests on, which is an eighth of the work.
+JOBS_OF_THE_LONGEST, JOBS_OF_THE_NEXT = 3, 2
 # Which part of the seconds that proofs take one after another they took side by side (`tools/seconds.txt`).
 SHARE_SIDE_BY_SIDE = 0.7
 
@@ -120,11 +122,16 @@ class Plan:
         that stands back does."""
         return self.ways[name] + self.seconds[name] >= self.longest(running)
 
-    def jobs(self, name, running, most):
-        """How many jobs a crate gets that begins now, where `most` are to be had: few if one that runs has a way so much longer that this
-        one can wait."""
-        can_wait = self.ways[name] < SHARE_OF_THOSE_THAT_CAN_WAIT * self.longest(running)
-        return min(most, JOBS_OF_THOSE_THAT_CAN_WAIT) if can_wait else most
+    def jobs(self, name, others, most):
+        """How many jobs a crate gets that begins now, where `most` are to be had: one if another that runs or could begin has a way so much
+        longer that this one can wait, and all if each other can wait."""
+        longest = self.longest([name, *others])
+        cannot_wait = [it for it in [name, *others] if self.ways[it] >= SHARE_OF_THOSE_THAT_CAN_WAIT * longest]
+        if name not in cannot_wait:
+            return 1
+        if cannot_wait == [name]:
+            return most
+        return min(most, JOBS_OF_THE_LONGEST if self.ways[name] == longest else JOBS_OF_THE_NEXT)
 
     def seconds_left(self, done, running):
         """About how long the rest takes on four idle processors; `running` has the seconds for which each crate has run."""
@@ -178,7 +185,8 @@ class Build:
         return (time.monotonic() - self.began) / seconds if seconds > SECONDS_BETWEEN_REPORTS else 1
 
     def start(self, name):
-        self.jobs[name] = self.plan.jobs(name, self.running, most_jobs())
+        others = [it for it in [*self.running, *self.plan.ready(self.done, self.running)] if it != name]
+        self.jobs[name] = self.plan.jobs(name, others, most_jobs())
         if not self.plan.leads(name, self.running):
             self.waiting.add(name)
         self.run(name)

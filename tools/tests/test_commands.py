@@ -178,7 +178,7 @@ class Run(Commands):
         if (self.state / "meet").exists():
             self.assertLess(max(calls["left"][2], calls["right"][2]), min(calls["left"][3], calls["right"][3]), "not side by side")
 
-    def test_a_crate_that_can_wait_has_two_jobs_and_stands_back(self):
+    def test_a_crate_that_can_wait_has_one_job_and_stands_back(self):
         """`left` takes longer than `right`, which runs beside it if there is memory for two, and can wait. How many jobs others have
         depends on the memory that is free."""
         if width_of_machine() > 1:
@@ -187,7 +187,7 @@ class Run(Commands):
         calls, jobs = {it[0]: it[1] for it in self.calls()}, r"--jobs [1-4]"
         for name in ("low", "left", "relay960"):
             self.assertRegex(calls[name], rf"^build .* {jobs} ")
-        self.assertRegex(calls["right"], r" --jobs [12] " if (self.state / "meet").exists() else rf" {jobs} ")
+        self.assertRegex(calls["right"], r" --jobs 1 " if (self.state / "meet").exists() else rf" {jobs} ")
         if (self.state / "meet").exists():
             self.assertLess(self.niceness("left"), self.niceness("right"))
 
@@ -216,21 +216,23 @@ class Run(Commands):
         below = {"low": [], "left": ["low"], "right": ["low"], "short": ["low"], "top": ["low", "left", "right", "short"]}
         return Plan(mock.Mock(below=below.get), list(below), seconds)
 
-    def test_the_crate_with_the_longest_way_leads_and_one_with_a_much_shorter_way_has_few_jobs(self):
+    def test_the_crate_with_the_longest_way_leads_and_has_the_most_jobs_and_one_with_a_much_shorter_way_has_one(self):
         """`right` leads beside `left`, since it would be waited for if it took twice as long."""
         plan = self.plan(low=50, left=200, right=180, short=20, top=100)
-        for name, running, jobs, leads in (
+        for name, others, jobs, leads in (
             ("low", [], 4, True),
             ("left", [], 4, True),
-            ("right", ["left"], 4, True),
-            ("left", ["right"], 4, True),
-            ("short", ["left", "right"], 2, False),
-            ("short", ["right"], 2, False),
+            ("left", ["short"], 4, True),
+            ("left", ["right", "short"], 3, True),
+            ("right", ["left"], 2, True),
+            ("short", ["left", "right"], 1, False),
+            ("short", ["right"], 1, False),
             ("short", [], 4, True),
         ):
-            with self.subTest(name=name, running=running):
-                self.assertEqual((plan.jobs(name, running, 4), plan.leads(name, running)), (jobs, leads))
-        self.assertEqual(plan.jobs("short", ["left"], 1), 1)
+            with self.subTest(name=name, others=others):
+                self.assertEqual((plan.jobs(name, others, 4), plan.leads(name, others)), (jobs, leads))
+        for most in (1, 2):
+            self.assertEqual(plan.jobs("left", ["right"], most), most)
 
     def test_the_crate_with_the_longest_way_begins_first(self):
         plan = self.plan(low=50, left=180, right=200, short=20, top=100)
