@@ -1,10 +1,10 @@
 //! The boards of a server, which all connections share.
 
-ghost use Rattle.relay_server.specs.Shared.{IsKnown, IsMade};
+ghost use Rattle.relay_server.specs.Shared.{IsMade};
 
 use crate::board_bell::BoardBell;
 use c960_game::Limits;
-use relay_core::{BoardName, Reply, Step};
+use relay_core::{Reply, Step};
 use relay_hall::{Hall, Handed, Owner};
 use relay_pushing::Bell;
 use std::alloc::{AllocError, Global};
@@ -15,9 +15,9 @@ use std::sync::{Mutex, Wait};
 /// socket is waited for, and no other lock is taken. What a hold finds, no contract says.
 #[derive(Drop)]
 pub struct Registry {
-    hall: Mutex<Hall>,
+    pub(crate) hall: Mutex<Hall>,
     /// How often the bell of each board was rung, wrapping, in the order of opening.
-    rings: Vec<AtomicU64>,
+    pub(crate) rings: Vec<AtomicU64>,
 }
 
 impl Registry {
@@ -37,13 +37,6 @@ impl Registry {
         })
     }
 
-    /// Whether a board of this name was opened.
-    pub(crate) fn knows<R: Wait>(&self, rt: &R, board: &BoardName) -> bool
-        ensures { IsKnown board.now result }
-    {
-        self.hall.lock(rt).place_of(board).is_some()
-    }
-
     /// Makes a step for this speaker. A board whose game has changed is rung for.
     pub(crate) fn step<R: Wait>(
         &self,
@@ -61,16 +54,5 @@ impl Registry {
             }
         }
         made
-    }
-
-    /// The bell of the board of this name, if there is such a board.
-    pub(crate) fn bell_of<'a, R: Wait>(
-        &'a self,
-        rt: &'a R,
-        board: &BoardName,
-    ) -> Option<BoardBell<'a, R>> {
-        let at = self.hall.lock(rt).place_of(board)?;
-        let rings = self.rings.get(at)?;
-        Some(BoardBell { rt, rings })
     }
 }

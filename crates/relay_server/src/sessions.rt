@@ -155,10 +155,8 @@ impl<R: Wait, S: Read + Write + Drop, G: Gate> Talk<'_, '_, R, S, G> {
     /// Pushes a board's moves to the connection until they end, then closes it. The follower leaves.
     fn follow(&mut self, handed: Handed) -> SessionEnd {
         let Handed { board, follower } = handed;
-        let rt = self.keeper.rt;
-        let registry = self.keeper.registry;
         let mut source = FollowerSource { follower };
-        let end = match registry.bell_of(rt, &board) {
+        let end = match self.keeper.bell_of(&board) {
             Some(bell) => self.push(&mut source, &bell),
             // Each board has a bell.
             None => SessionEnd::Failed,

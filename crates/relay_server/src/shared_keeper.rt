@@ -2,6 +2,7 @@
 
 ghost use Rattle.std.specs.Prelude.{◌≡◌, None};
 
+use crate::board_bell::BoardBell;
 use crate::registry::Registry;
 use relay_core::{BoardName, Reply, Step};
 use relay_hall::{Handed, Owner};
@@ -13,8 +14,8 @@ use std::sync::Wait;
 /// handed out to the connection until that is taken. Contracts see a `KeeperState`.
 #[derive(Drop)]
 pub(crate) struct SharedKeeper<'a, R> {
-    pub(crate) rt: &'a R,
-    pub(crate) registry: &'a Registry,
+    rt: &'a R,
+    registry: &'a Registry,
     speaker: Owner,
     /// The follower of the last accepted follow, until it is taken.
     handed: Option<Handed>,
@@ -49,6 +50,13 @@ impl<'a, R: Wait> SharedKeeper<'a, R> {
     {
         self.handed.take()
     }
+
+    /// The bell of the board of this name, if there is such a board.
+    pub(crate) fn bell_of(&self, board: &BoardName) -> Option<BoardBell<'a, R>> {
+        let at = self.registry.hall.lock(self.rt).place_of(board)?;
+        let rings = self.registry.rings.get(at)?;
+        Some(BoardBell { rt: self.rt, rings })
+    }
 }
 
 impl<R: Wait> Keeper for SharedKeeper<'_, R> {
@@ -59,7 +67,7 @@ impl<R: Wait> Keeper for SharedKeeper<'_, R> {
     ghost makes = { λ s step reply t. KeeperMakes s step reply t };
 
     fn knows(&self, board: &BoardName) -> bool {
-        self.registry.knows(self.rt, board)
+        self.registry.hall.lock(self.rt).place_of(board).is_some()
     }
 
     fn owns(&self, _board: &BoardName) -> bool {
