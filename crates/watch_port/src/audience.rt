@@ -1,11 +1,9 @@
 //! The spectators of one board, and the tape that they are sent.
 
-use crate::board_event::Progress;
-use crate::board_table::BoardCopy;
-use crate::watch_connection::{Doing, WatchConnection};
+use crate::board_table::{BoardCopy, BoardTable};
 use c960_board::Position;
+use indexmap::IndexSet;
 use relay_watching::{SpectatorConnection, Tape};
-use slab::Slab;
 use std::alloc::{AllocError, Global};
 
 /// The spectators of one board.
@@ -14,89 +12,74 @@ pub(crate) struct Audience {
     /// The index of the board.
     pub(crate) board: usize,
     pub(crate) tape: Tape,
-    /// How far the board was when its moves were last put on the tape.
-    taped: Option<Progress>,
-    /// How many spectators there are.
-    pub(crate) count: usize,
+    /// The keys of those that watch it.
+    pub(crate) spectators: IndexSet<usize>,
     /// The second in which somebody last left, or asked to follow. An audience that is empty is dropped soon after it.
     pub(crate) left_at: u64,
-    /// The keys of those that are written to as soon as there is news: all but those whose connections take no more now.
-    pub(crate) ready: Vec<usize>,
     /// The place at which a spectator last joined, and the position there.
     last: Option<(u16, Position)>,
 }
 
 impl Audience {
     /// An audience of the board of this index, still without spectators.
-    pub(crate) fn new(alloc: Global, board: usize, now: u64) -> Audience {
+    pub(crate) fn new(alloc: Global, board: usize) -> Audience {
         Audience {
             board,
             tape: Tape::new(alloc),
-            taped: None,
-            count: 0,
-            left_at: now,
-            ready: Vec::new(alloc),
+            spectators: IndexSet::new(alloc),
+            left_at: 0,
             last: None,
         }
     }
 
-    /// Puts on the tape what has happened on its board since the last such call. Returns whether anything has.
+    /// Puts on the tape what it lacks of its board. If that is anything, its spectators are added to `untold`.
     ///
     /// # Errors
     ///
-    /// There was no memory. The next call puts there what is missing.
-    pub(crate) fn refresh(&mut self, board: &BoardCopy) -> Result<bool, AllocError> {
-        let progress = board.progress();
-        if self.taped == Some(progress) {
-            return Ok(false);
+    /// There was no memory. The next call does what is missing.
+    pub(crate) fn refresh(
+        &mut self,
+        boards: &BoardTable,
+        untold: &mut Vec<usize>,
+    ) -> Result<(), AllocError> {
+        let Some(board) = boards.board(self.board) else {
+            return Ok(());
+        };
+        let lacks_end = board.outcome.is_some() && !self.tape.is_over();
+        if lacks_end || self.tape.len() < usize::from(board.game.len()) {
+            untold.extend_from_slice(self.spectators.as_slice())?;
+            put_on(&mut self.tape, board)?;
         }
-        put_on(&mut self.tape, board)?;
-        self.taped = Some(progress);
-        Ok(true)
+        Ok(())
     }
 
     /// A connection for a spectator that joins at a place of the tape, or at its end. There is none if its board has not reached that
     /// place.
     pub(crate) fn join(
         &mut self,
-        board: &BoardCopy,
+        boards: &BoardTable,
         from: Option<u16>,
     ) -> Result<Option<SpectatorConnection>, AllocError> {
-        let length = place_of(self.tape.len());
-        let place = from.unwrap_or(length);
-        match position_at(&mut self.last, board, place) {
+        let place = from.unwrap_or(place_of(self.tape.len()));
+        match self.position_at(boards, place) {
             Some(position) if usize::from(place) <= self.tape.len() => {
                 Ok(Some(self.tape.join(place, &position)?))
             }
             _ => Ok(None),
         }
     }
-}
 
-/// The position at a place, which is the last that was asked for from then on. When many spectators arrive at once, they join at the same.
-fn position_at(
-    last: &mut Option<(u16, Position)>,
-    board: &BoardCopy,
-    place: u16,
-) -> Option<Position> {
-    if let Some((at, position)) = *last {
-        if at == place {
-            return Some(position);
+    /// The position at a place, which is the last that was asked for from then on. When many spectators arrive at once, they join at the
+    /// same.
+    fn position_at(&mut self, boards: &BoardTable, place: u16) -> Option<Position> {
+        if let Some((at, position)) = self.last {
+            if at == place {
+                return Some(position);
+            }
         }
-    }
-    let position = board.game.position_at(place)?;
-    *last = Some((place, position));
-    Some(position)
-}
-
-/// The tape of the board that a connection watches, if it watches one.
-pub(crate) fn tape_of<'t>(
-    audiences: &'t Slab<Audience>,
-    connection: &WatchConnection,
-) -> Option<&'t Tape> {
-    match &connection.doing {
-        Doing::Watches(watching) => Some(&audiences.get(watching.audience)?.tape),
-        _ => None,
+        let position = boards.board(self.board)?.game.position_at(place)?;
+        self.last = Some((place, position));
+        Some(position)
     }
 }
 

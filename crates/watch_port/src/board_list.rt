@@ -2,6 +2,7 @@
 
 use crate::board_event::Progress;
 use crate::board_table::BoardTable;
+use indexmap::IndexSet;
 use relay_frames::outgoing;
 use relay_messages::encode_board;
 use std::alloc::{AllocError, Global};
@@ -11,8 +12,12 @@ use std::alloc::{AllocError, Global};
 pub(crate) struct BoardList {
     alloc: Global,
     entries: Vec<Entry>,
-    /// The number of the last change.
-    changes: u64,
+    /// The number of the last change. That there are no boards yet is the first.
+    pub(crate) changes: u64,
+    /// The keys of those that watch all boards.
+    pub(crate) spectators: IndexSet<usize>,
+    /// The number of the last change of which they were told. It is 0 if one of them has not been sent it yet.
+    pub(crate) told: u64,
 }
 
 /// What is sent of a board.
@@ -28,49 +33,57 @@ struct Entry {
     change: u64,
 }
 
-impl Entry {
-    /// Whether its text has to be made again: there is news, and it was not made within this second, or its game has ended.
-    fn is_due(&self, progress: Progress, now: u64) -> bool {
-        self.made_of != progress && (self.made_at < now || progress.is_over)
-    }
-}
-
 impl BoardList {
     /// No boards are known yet.
     pub(crate) fn new(alloc: Global) -> BoardList {
         BoardList {
             alloc,
             entries: Vec::new(alloc),
-            changes: 0,
+            changes: 1,
+            spectators: IndexSet::new(alloc),
+            told: 0,
         }
     }
 
-    /// The number of the last change.
-    pub(crate) fn changes(&self) -> u64 {
-        self.changes
-    }
-
-    /// Adds the boards that were opened, and makes the texts that are due again.
+    /// If there are spectators, adds the boards that were opened, and makes the texts that are due again. If any has changed since the
+    /// spectators were told, they are added to `untold`.
     ///
     /// # Errors
     ///
-    /// There was no memory. The next call makes what is missing.
-    pub(crate) fn refresh(&mut self, boards: &BoardTable, now: u64) -> Result<(), AllocError> {
-        for at in 0..boards.len() {
-            self.refresh_one(at, boards, now)?;
+    /// There was no memory. The next call does what is missing.
+    pub(crate) fn refresh(
+        &mut self,
+        boards: &BoardTable,
+        now: u64,
+        untold: &mut Vec<usize>,
+    ) -> Result<(), AllocError> {
+        if self.spectators.is_empty() {
+            return Ok(());
         }
-        Ok(())
+        let mut made = Ok(());
+        for at in 0..boards.len() {
+            if made.is_ok() {
+                made = self.make_text(at, boards, now);
+            }
+        }
+        if self.told != self.changes {
+            untold.extend_from_slice(self.spectators.as_slice())?;
+            self.told = self.changes;
+        }
+        made
     }
 
     /// Makes the text of the board of this index, if there is none yet or it is due again.
-    fn refresh_one(&mut self, at: usize, boards: &BoardTable, now: u64) -> Result<(), AllocError> {
+    fn make_text(&mut self, at: usize, boards: &BoardTable, now: u64) -> Result<(), AllocError> {
         let Some(board) = boards.board(at) else {
             return Ok(());
         };
         let made_of = board.progress();
-        let entry = self.entries.get(at);
-        if entry.is_some_and(|entry| !entry.is_due(made_of, now)) {
-            return Ok(());
+        if let Some(entry) = self.entries.get(at) {
+            // News of a game that goes on waits for the next second.
+            if entry.made_of == made_of || entry.made_at >= now && !made_of.is_over {
+                return Ok(());
+            }
         }
         let text = encode_board(self.alloc, &board.summary())?;
         let mut frame = Vec::new(self.alloc);

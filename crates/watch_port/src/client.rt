@@ -2,20 +2,29 @@
 
 use crate::watch_connection::{Doing, WatchConnection};
 use mio::net::TcpStream;
-use relay_frames::Code;
 use relay_watching::Tape;
 use server_loop::{Deadlines, Delivery, Stage, Written, write_once};
 use std::alloc::AllocError;
 use std::net::Shutdown;
 
+/// A client goes: its connection has failed or ended, or there is no memory for it.
+#[derive(Clone, Copy)]
+pub(crate) struct Gone;
+
+impl From<AllocError> for Gone {
+    fn from(_: AllocError) -> Gone {
+        Gone
+    }
+}
+
 /// A client: its connection, as bytes in and out, and its socket.
 #[derive(Drop)]
 pub(crate) struct Client {
     pub(crate) stream: TcpStream,
+    /// The key by which it is found, from its coming on.
+    pub(crate) key: usize,
     pub(crate) connection: WatchConnection,
     pub(crate) deadlines: Deadlines,
-    /// Its index in its audience among those that are written to as soon as there is news, if it is among them.
-    pub(crate) ready_index: Option<usize>,
     /// Whether there was room for it when it came.
     pub(crate) has_room: bool,
     /// Whether everything was sent to it, and its output has ended.
@@ -39,7 +48,11 @@ impl Client {
             match write_once(&self.stream, piece, self.connection.offered_behind(tape)) {
                 Written::Bytes(n) => {
                     self.deadlines.is_served();
-                    self.wrote(tape, n, length);
+                    // Of those offered, and then of those behind them.
+                    self.connection.wrote(tape, n.min(length));
+                    if n > length {
+                        self.connection.wrote(tape, n - length);
+                    }
                 }
                 Written::Blocked => {
                     self.deadlines.is_kept_waiting(now);
@@ -51,12 +64,15 @@ impl Client {
         Delivery::Failed
     }
 
-    /// `n` bytes were written: of those offered, which have this length, and then of those after them.
-    fn wrote(&mut self, tape: Option<&Tape>, n: usize, length: usize) {
-        self.connection.wrote(tape, n.min(length));
-        if n > length {
-            self.connection.wrote(tape, n - length);
+    /// Whether it is not heard now, because too much is kept for it, or because it is still owed what it has to be sent first. It is heard
+    /// again once that is written.
+    pub(crate) fn is_deaf(&mut self) -> bool {
+        let is_deaf = self.connection.is_owed_first() || self.connection.is_full();
+        if is_deaf {
+            self.is_full = true;
+            self.deadlines.silence.owes_no_rest();
         }
+        is_deaf
     }
 
     /// Whether what it sends is not heard any more.
@@ -74,19 +90,6 @@ impl Client {
             Doing::Asks => Stage::Asks,
             Doing::Watches(_) | Doing::WatchesAll(_) => Stage::Follows,
         }
-    }
-
-    /// A client that has shaken hands but for which there was no room is told so, and leaves. Any other asks from now on.
-    #[tactic(auto, unfolding(relay_frames::specs::Codes::may_be_sent))]
-    pub(crate) fn turn_away_if_full(&mut self, now: u64) -> Result<(), AllocError> {
-        if !matches!(self.connection.doing, Doing::Asks) {
-            return Ok(());
-        }
-        self.deadlines.begins(now);
-        if !self.has_room && !self.connection.is_leaving {
-            self.connection.close(Code::AGAIN)?;
-        }
-        Ok(())
     }
 
     /// It was sent everything. Its output ends, and what it still sends is read for a while, since a reset would otherwise destroy the end

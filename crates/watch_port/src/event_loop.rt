@@ -2,6 +2,7 @@
 
 use crate::board_table::BoardTable;
 use crate::clients::Clients;
+use crate::common::{Common, Due};
 use crate::feed::Feed;
 use crate::port::Port;
 use c960_game::Limits;
@@ -48,7 +49,7 @@ impl EventLoop {
         let (feed, boards) = Feed::new(alloc, limits)?;
         let event_loop = EventLoop {
             alloc,
-            acceptor: port.acceptors.add(poller.registry())?,
+            acceptor: port.add(poller.registry())?,
             poller,
             boards,
         };
@@ -68,24 +69,21 @@ impl EventLoop {
     pub fn run<R: Clock + Wait>(self, rt: &R, port: &Port) -> io::Result<()> {
         let acceptor = self.acceptor;
         let served = self.serve(rt, port);
-        port.acceptors.end(acceptor);
+        port.ends(acceptor);
         served
     }
 
     /// Serves connections. At the end it leaves its acceptor as it is.
     fn serve<R: Clock + Wait>(self, rt: &R, port: &Port) -> io::Result<()> {
-        let EventLoop {
-            alloc,
-            mut poller,
-            acceptor,
-            boards,
-        } = self;
+        let mut poller = self.poller;
+        let clock = LoopClock::begin(rt)?;
+        let common = Common::new(self.alloc, port, self.acceptor, clock, self.boards);
         let mut turns = Turns {
-            clients: Clients::new(alloc, port, acceptor, boards),
+            clients: Clients::new(common),
             reserve: Reserve::new(&port.listener),
-            clock: LoopClock::begin(rt)?,
             has_newcomers: true,
             heard_by: 0,
+            looked_at: 0,
             ends_at: None,
         };
         for _ in rt.forever() {
@@ -103,11 +101,12 @@ impl EventLoop {
 struct Turns<'a> {
     clients: Clients<'a>,
     reserve: Reserve,
-    clock: LoopClock,
     /// Whether there may be newcomers that the system does not report again.
     has_newcomers: bool,
     /// Everything that clients had sent by this second has been heard, or is reported in this turn.
     heard_by: u64,
+    /// The second by which clients were last looked at, once a second.
+    looked_at: u64,
     /// The second in which the loop ends even if clients remain, once clients were told that the port closes.
     ends_at: Option<u64>,
 }
@@ -115,8 +114,9 @@ struct Turns<'a> {
 impl<'a> Turns<'a> {
     /// How long the next turn waits at most.
     fn most_wait(&self) -> Duration {
-        let has_to_close = self.clients.port.is_closing() && self.ends_at.is_none();
-        if self.has_newcomers || self.clients.has_unread() || has_to_close {
+        let common = &self.clients.common;
+        let has_to_close = common.port.is_closing() && self.ends_at.is_none();
+        if self.has_newcomers || !common.unread.is_empty() || has_to_close {
             Duration::ZERO
         } else {
             Duration::from_millis(TURN_MILLIS)
@@ -125,18 +125,18 @@ impl<'a> Turns<'a> {
 
     /// Handles what the system reported, and what is due. Returns whether it was the last turn.
     fn take<C: Clock>(&mut self, clock: &C, poller: &Poller) -> bool {
-        let asked = self.clients.now;
-        self.look_at_clock(clock);
-        let began = self.clients.now;
+        let asked = self.clients.common.now();
+        self.clients.common.clock.look(clock);
+        let began = self.clients.common.now();
         // This comes before looking: whoever wakes the loop from now on wakes it again.
         poller.waker().reset();
         // The boards have ended if the port closes, so what is told then is the last.
-        let is_closing = self.clients.port.is_closing();
-        self.clients.take_in_events();
+        let is_closing = self.clients.common.port.is_closing();
+        self.clients.common.take_in_events();
         self.clients.hear_unread();
         let mut told = 0usize;
         for event in poller.events().iter() {
-            self.look_at_clock(clock);
+            self.clients.common.clock.look(clock);
             self.handle(event);
             told = told.saturating_add(1);
         }
@@ -144,21 +144,18 @@ impl<'a> Turns<'a> {
             // The system has reported everything that had arrived when it was asked.
             self.heard_by = asked;
         }
-        self.look_at_clock(clock);
+        self.clients.common.clock.look(clock);
         self.accept(poller.registry(), told);
         self.clients.tell_all();
         // However long a turn took, or the program was suspended, no client is dropped for what it had sent in time.
-        if self.clients.look_around(self.heard_by) {
+        if self.heard_by > self.looked_at {
+            self.looked_at = self.heard_by;
+            self.clients.common.drop_audiences();
+            self.clients.attend_all(Due::Look(self.heard_by));
             // An accept that failed is tried again.
             self.has_newcomers = true;
         }
         is_closing && self.is_over(began)
-    }
-
-    /// Tells the clients how many seconds have passed.
-    fn look_at_clock<C: Clock>(&mut self, clock: &C) {
-        self.clock.look(clock);
-        self.clients.now = self.clock.seconds();
     }
 
     /// Handles what the system reported.
@@ -168,11 +165,12 @@ impl<'a> Turns<'a> {
             WAKER => {}
             Token(key) => {
                 if event.is_writable() {
-                    self.clients.write_to(key);
+                    self.clients.attend(key, Due::Output);
                 }
                 if event.is_readable() {
-                    self.clients.hear_of(key, event.is_read_closed());
+                    self.clients.attend(key, Due::Input(event.is_read_closed()));
                 }
+                self.clients.tell();
             }
         }
     }
@@ -180,35 +178,31 @@ impl<'a> Turns<'a> {
     /// Accepts newcomers while this loop does, but no more of them than the system reported events. An accept with nobody waiting takes as
     /// long as any other, so it is left to the system to report whether somebody still waits.
     fn accept(&mut self, registry: &Registry, told: usize) {
-        let (port, acceptor) = (self.clients.port, self.clients.acceptor);
+        let (port, acceptor) = (self.clients.common.port, self.clients.common.acceptor);
         for _ in 0..told.clamp(1, MOST_NEWCOMERS) {
-            if !self.accepts() {
+            if !self.has_newcomers || !port.accepts(acceptor) {
                 break;
             }
             match self.reserve.accept(&port.listener) {
                 Arrival::Newcomer(stream) => {
                     self.clients.enters(registry, stream);
-                    port.acceptors.even_out(acceptor);
+                    port.even_out(acceptor);
                 }
                 Arrival::TurnedAway => {}
                 Arrival::Nobody | Arrival::Failed => self.has_newcomers = false,
             }
         }
-        self.has_newcomers = self.accepts() && !port.acceptors.tells_again(acceptor);
-    }
-
-    /// Whether newcomers may be waiting, and are accepted here.
-    fn accepts(&self) -> bool {
-        let port = self.clients.port;
-        self.has_newcomers && !port.is_closing() && port.acceptors.accepts(self.clients.acceptor)
+        self.has_newcomers = self.has_newcomers
+            && port.accepts(acceptor)
+            && !port.tells_again(acceptor);
     }
 
     /// The port closes. Clients are told, and then waited for. Returns whether this is over.
     fn is_over(&mut self, now: u64) -> bool {
         if self.ends_at.is_none() {
-            self.clients.end();
+            self.clients.attend_all(Due::ServingEnds);
             self.ends_at = Some(now.saturating_add(MOST_CLOSING_SECONDS));
         }
-        self.clients.is_empty() || self.ends_at.is_some_and(|ends_at| now >= ends_at)
+        self.clients.each.is_empty() || self.ends_at.is_some_and(|ends_at| now >= ends_at)
     }
 }

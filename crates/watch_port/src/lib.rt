@@ -5,13 +5,13 @@
 //! what peers say is read by `relay_frames`. Neither knows of sockets. This crate decides who is written to when.
 #![tactic(auto)]
 
-mod acceptors;
 mod audience;
 mod board_event;
 mod board_list;
 mod board_table;
 mod client;
 mod clients;
+mod common;
 mod event_loop;
 mod feed;
 mod port;

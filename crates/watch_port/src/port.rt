@@ -1,25 +1,49 @@
-//! The port that several loops serve.
+//! The port that several loops serve. One of them accepts newcomers at a time, the one with the fewest connections.
 
-use crate::acceptors::Acceptors;
+use mio::unix::SourceFd;
+use mio::{Interest, Registry};
+use server_loop::LISTENER;
 use std::alloc::{AllocError, Global};
 use std::io;
+use std::io::ErrorKind;
 use std::net::TcpListener;
 use std::os::fd::AsRawFd;
 use std::sync::Arc;
-use std::sync::atomic::{AtomicBool, AtomicU32, Ordering};
+use std::sync::atomic::{AtomicBool, AtomicU32, AtomicUsize, Ordering};
+
+/// How many connections more than another a loop may have while it accepts: this many, and one more for each `PART_AHEAD` connections of
+/// the other. To let another one accept takes three calls of the system, and wakes it.
+const MOST_AHEAD: u32 = 4;
+
+const PART_AHEAD: u32 = 16;
+
+/// To the loop that accepts, newcomers are reported.
+const ACCEPTS: Interest = Interest::READABLE;
+
+/// To another one nothing is reported, since no listener is ever writable.
+const RESTS: Interest = Interest::WRITABLE;
 
 /// A port whose newcomers several loops share evenly.
 #[derive(Drop)]
 pub struct Port {
     pub(crate) listener: TcpListener,
-    /// Those of the loops.
-    pub(crate) acceptors: Acceptors,
+    /// Those of the loops, of which this one accepts.
+    acceptors: Vec<Acceptor>,
+    accepting: AtomicUsize,
     /// How many connections there may be, and how many there are.
     most: u32,
     count: Arc<AtomicU32, Global>,
     /// For how many seconds a connection that asks for nothing is waited for.
     pub(crate) most_idle: Option<u64>,
     is_closing: AtomicBool,
+}
+
+/// What reports newcomers to a loop.
+#[derive(Drop)]
+struct Acceptor {
+    registry: Registry,
+    /// How many connections the loop has. A loop that has ended counts as having the greatest number.
+    clients: AtomicU32,
 }
 
 impl Port {
@@ -37,8 +61,9 @@ impl Port {
     ) -> io::Result<Port> {
         listener.set_nonblocking(true)?;
         Ok(Port {
-            acceptors: Acceptors::new(alloc, listener.as_raw_fd()),
             listener,
+            acceptors: Vec::new(alloc),
+            accepting: AtomicUsize::new(0),
             most,
             count: Arc::new(alloc, AtomicU32::new(0))?,
             most_idle,
@@ -65,15 +90,108 @@ impl Port {
         self.is_closing.load(Ordering::SeqCst)
     }
 
+    // ---- Coming and going.
+
     /// Counts a newcomer that came by this acceptor, and returns whether there is room for it.
-    pub(crate) fn enters(&self, acceptor: usize) -> bool {
-        self.acceptors.enters(acceptor);
+    pub(crate) fn enters(&self, at: usize) -> bool {
+        if let Some(acceptor) = self.acceptors.get(at) {
+            acceptor.clients.fetch_add(1, Ordering::SeqCst);
+        }
         self.count.fetch_add(1, Ordering::SeqCst) < self.most
     }
 
     /// Counts off a connection that goes and had come by this acceptor.
-    pub(crate) fn leaves(&self, acceptor: usize) {
-        self.acceptors.leaves(acceptor);
+    pub(crate) fn leaves(&self, at: usize) {
+        if let Some(acceptor) = self.acceptors.get(at) {
+            acceptor.clients.fetch_sub(1, Ordering::SeqCst);
+        }
         self.count.fetch_sub(1, Ordering::SeqCst);
+    }
+
+    // ---- Which loop accepts.
+
+    /// Adds the acceptor of the loop to which this registry reports newcomers. The first one accepts. Returns its number.
+    ///
+    /// # Errors
+    ///
+    /// As the system's own calls, or there was no memory.
+    pub(crate) fn add(&mut self, registry: &Registry) -> io::Result<usize> {
+        let at = self.acceptors.len();
+        let interest = if at == 0 { ACCEPTS } else { RESTS };
+        registry.register(
+            &mut SourceFd(&self.listener.as_raw_fd()),
+            LISTENER,
+            interest,
+        )?;
+        let acceptor = Acceptor {
+            registry: registry.try_clone()?,
+            clients: AtomicU32::new(0),
+        };
+        self.acceptors.push(acceptor)?;
+        Ok(at)
+    }
+
+    /// Whether newcomers come by this acceptor.
+    pub(crate) fn accepts(&self, at: usize) -> bool {
+        !self.is_closing() && self.accepting.load(Ordering::SeqCst) == at
+    }
+
+    /// If there are far more connections here than elsewhere, the loop with the fewest accepts from now on.
+    pub(crate) fn even_out(&self, at: usize) {
+        let (mut next, mut fewest) = (at, self.clients(at));
+        for other in 0..self.acceptors.len() {
+            let clients = self.clients(other);
+            if clients < fewest {
+                (next, fewest) = (other, clients);
+            }
+        }
+        let most = fewest
+            .saturating_add(fewest / PART_AHEAD)
+            .saturating_add(MOST_AHEAD);
+        if self.clients(at) > most {
+            self.accept_instead(at, next);
+        }
+    }
+
+    /// Makes the system report again whether somebody waits to be accepted by this one. Returns whether it does.
+    pub(crate) fn tells_again(&self, at: usize) -> bool {
+        self.set(at, ACCEPTS).is_ok()
+    }
+
+    /// The loop of this acceptor has ended: nobody comes by it any more.
+    pub(crate) fn ends(&self, at: usize) {
+        if let Some(acceptor) = self.acceptors.get(at) {
+            acceptor.clients.store(u32::MAX, Ordering::SeqCst);
+        }
+        if self.accepting.load(Ordering::SeqCst) == at {
+            self.even_out(at);
+        }
+    }
+
+    /// How many connections the loop of this one has.
+    fn clients(&self, at: usize) -> u32 {
+        self.acceptors.get(at).map_or(u32::MAX, |acceptor| acceptor.clients.load(Ordering::SeqCst))
+    }
+
+    /// The next one accepts instead of this one. Its loop is told at once if somebody waits. Nothing is changed after that, since that loop
+    /// may have let another one accept by then.
+    fn accept_instead(&self, at: usize, next: usize) {
+        if self.set(at, RESTS).is_err() {
+            return;
+        }
+        self.accepting.store(next, Ordering::SeqCst);
+        if self.set(next, ACCEPTS).is_err() {
+            self.accepting.store(at, Ordering::SeqCst);
+            let _ = self.set(at, ACCEPTS);
+        }
+    }
+
+    /// Sets what is reported to the loop of this one.
+    fn set(&self, at: usize, interest: Interest) -> io::Result<()> {
+        let acceptor = self.acceptors.get(at).ok_or(ErrorKind::NotFound)?;
+        let listener = self.listener.as_raw_fd();
+        acceptor
+            .registry
+            .reregister(&mut SourceFd(&listener), LISTENER, interest)
     }
 }

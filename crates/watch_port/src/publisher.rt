@@ -5,6 +5,7 @@ use c960_board::Move;
 use c960_game::MOST_BOARDS;
 use relay_hall::Hall;
 use std::alloc::{AllocError, Global};
+use std::mem;
 
 /// Tells all loops what happens to the boards of a hall. It never waits for one.
 #[derive(Drop)]
@@ -43,9 +44,15 @@ impl Publisher {
     /// Tells the loops of the boards that have changed, if any has since the last such call. Returns whether all loops were told all: what
     /// does not fit into a loop's ring, or finds no memory, is told later.
     pub fn publish(&mut self, hall: &Hall) -> bool {
-        if self.has_changed {
-            self.has_changed = false;
-            self.is_behind = !self.publish_all(hall);
+        if mem::replace(&mut self.has_changed, false) {
+            self.is_behind = false;
+            for at in 0..MOST_BOARDS {
+                if self.changed[usize::from(at)] {
+                    let is_told = self.publish_one(hall, at).unwrap_or(false);
+                    self.changed[usize::from(at)] = !is_told;
+                    self.is_behind = self.is_behind || !is_told;
+                }
+            }
         }
         !self.is_behind
     }
@@ -56,25 +63,14 @@ impl Publisher {
         self.publish(hall)
     }
 
-    /// Tells the loops of all boards of which they have yet to be told. Returns whether they were told all.
-    fn publish_all(&mut self, hall: &Hall) -> bool {
-        let mut are_told = true;
-        for at in 0..MOST_BOARDS {
-            if self.changed[usize::from(at)] {
-                let is_told = self.publish_one(hall, at).unwrap_or(false);
-                self.changed[usize::from(at)] = !is_told;
-                are_told = are_told && is_told;
-            }
-        }
-        are_told
-    }
-
     /// Tells all loops of one board. Returns whether each was told all.
     fn publish_one(&mut self, hall: &Hall, at: u16) -> Result<bool, AllocError> {
         let Some(shown) = hall.board(usize::from(at)) else {
             return Ok(true);
         };
-        let from = self.least_told(at);
+        // So many of its moves every loop was told.
+        let told = self.feeds.iter().map(|feed| feed.moves_told(at));
+        let from = told.min().unwrap_or(u16::MAX);
         self.moves.clear();
         let outcome = shown.moves_from(from, &mut self.moves)?;
         let board = BoardUpdate {
@@ -92,17 +88,10 @@ impl Publisher {
         Ok(are_told)
     }
 
-    /// How many moves of the board of this index every loop was told.
-    fn least_told(&self, at: u16) -> u16 {
-        let told = self.feeds.iter().map(|feed| feed.moves_told(at));
-        told.min().unwrap_or(u16::MAX)
-    }
-
     /// Whether the loop of this feed was told anything since the last such call.
     pub fn take_fresh(&mut self, feed: usize) -> bool {
-        match self.feeds.get_mut(feed) {
-            Some(feed) => feed.take_fresh(),
-            None => false,
-        }
+        self.feeds
+            .get_mut(feed)
+            .is_some_and(|feed| feed.take_fresh())
     }
 }

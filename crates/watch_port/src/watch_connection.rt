@@ -91,11 +91,11 @@ impl WatchConnection {
         });
     }
 
-    /// Whether nothing has been written yet of what it watches. Of all boards there have been `changes` changes.
-    pub(crate) fn is_owed_first(&self, changes: u64) -> bool {
+    /// Whether nothing has been written yet of what it watches. That comes before the answers to what it said later.
+    pub(crate) fn is_owed_first(&self) -> bool {
         match &self.doing {
             Doing::Watches(watching) => !watching.has_begun,
-            Doing::WatchesAll(told) => *told == 0 && changes > 0,
+            Doing::WatchesAll(told) => *told == 0,
             Doing::Comes(_) | Doing::Asks => false,
         }
     }

@@ -1,0 +1,179 @@
+//! What all connections of a loop share: the boards, who watches them, and the clock. What is done here for a client can reach no other.
+
+mod hearing;
+mod writing;
+
+use crate::audience::Audience;
+use crate::board_list::BoardList;
+use crate::board_table::BoardTable;
+use crate::client::{Client, Gone};
+use crate::port::Port;
+use crate::watch_connection::{Doing, Watching};
+use c960_game::Refusal;
+use relay_core::BoardName;
+use relay_messages::Decoder;
+use server_loop::LoopClock;
+use slab::Slab;
+use std::alloc::{AllocError, Global};
+use std::mem;
+
+/// What is due for a client.
+#[derive(Clone, Copy)]
+pub(crate) enum Due {
+    /// What its connection did not take before.
+    Output,
+    /// News of what it watches. It waits if its connection takes no more now.
+    News,
+    /// What came from it, perhaps with the end of its output. It waits if it is to be read on.
+    Input(bool),
+    /// What it sent and its last turn left.
+    Rest,
+    /// To be looked at, all having been heard that had come by this second.
+    Look(u64),
+    /// To be told that serving ends.
+    ServingEnds,
+}
+
+/// What all connections of a loop share.
+#[derive(Drop)]
+pub(crate) struct Common<'a> {
+    pub(crate) alloc: Global,
+    pub(crate) port: &'a Port,
+    /// The number of the acceptor by which they come.
+    pub(crate) acceptor: usize,
+    pub(crate) clock: LoopClock,
+    boards: BoardTable,
+    pub(crate) audiences: Slab<Audience>,
+    list: BoardList,
+    decoder: Decoder,
+    /// Clients that are to be read on although the system reports nothing of them.
+    pub(crate) unread: Vec<usize>,
+    /// Clients that have yet to be sent what was found to be new.
+    pub(crate) untold: Vec<usize>,
+}
+
+impl<'a> Common<'a> {
+    /// Nobody shares it yet. These are the boards that are shown.
+    pub(crate) fn new(
+        alloc: Global,
+        port: &'a Port,
+        acceptor: usize,
+        clock: LoopClock,
+        boards: BoardTable,
+    ) -> Common<'a> {
+        Common {
+            alloc,
+            port,
+            acceptor,
+            clock,
+            boards,
+            audiences: Slab::new(alloc),
+            list: BoardList::new(alloc),
+            decoder: Decoder::new(alloc),
+            unread: Vec::new(alloc),
+            untold: Vec::new(alloc),
+        }
+    }
+
+    /// The second of the loop's clock.
+    pub(crate) fn now(&self) -> u64 {
+        self.clock.seconds()
+    }
+
+    /// Does what is due for a client.
+    pub(crate) fn does(&mut self, client: &mut Client, due: Due) -> Result<(), Gone> {
+        match due {
+            Due::News if client.deadlines.waits_since.is_some() => Ok(()),
+            Due::News | Due::Output => self.send(client),
+            Due::Input(_) if client.is_unread => Ok(()),
+            Due::Input(has_ended) => self.hear(client, has_ended),
+            Due::Rest => self.hear(client, true),
+            Due::Look(now) => self.look_at(client, now),
+            Due::ServingEnds => self.tell_of_the_end(client),
+        }
+    }
+
+    // ---- Who watches what.
+
+    /// Lets a client follow a board from a place of its log, or from its present length, or refuses.
+    fn follow(
+        &mut self,
+        client: &mut Client,
+        name: &BoardName,
+        from: Option<u16>,
+    ) -> Result<Option<Refusal>, AllocError> {
+        // It may have read of a board or a move elsewhere since this turn began.
+        self.take_in_events();
+        let Some(board) = self.boards.find(name) else {
+            return Ok(Some(Refusal::NoSuchBoard));
+        };
+        let at = match self.audiences.iter().find(|(_, it)| it.board == board) {
+            Some((at, _)) => at,
+            None => self.audiences.insert(Audience::new(self.alloc, board))?,
+        };
+        let Some(audience) = self.audiences.get_mut(at) else {
+            return Ok(Some(Refusal::NoSuchBoard));
+        };
+        audience.left_at = self.clock.seconds();
+        audience.refresh(&self.boards, &mut self.untold)?;
+        let Some(spectator) = audience.join(&self.boards, from)? else {
+            return Ok(Some(Refusal::NotYet));
+        };
+        audience.spectators.insert(client.key)?;
+        client.connection.watch(at, spectator);
+        Ok(None)
+    }
+
+    /// Lets a client watch all boards from now on.
+    fn watch_all(&mut self, client: &mut Client) -> Result<(), AllocError> {
+        self.take_in_events();
+        client.connection.doing = Doing::WatchesAll(0);
+        self.list.spectators.insert(client.key)?;
+        self.look_for_changes()
+    }
+
+    /// A client no longer watches anything.
+    pub(crate) fn watches_no_more(&mut self, client: &mut Client) {
+        match mem::replace(&mut client.connection.doing, Doing::Asks) {
+            Doing::Watches(Watching { audience, .. }) => {
+                if let Some(audience) = self.audiences.get_mut(audience) {
+                    audience.spectators.swap_remove(&client.key);
+                    audience.left_at = self.clock.seconds();
+                }
+            }
+            Doing::WatchesAll(_) => {
+                self.list.spectators.swap_remove(&client.key);
+            }
+            Doing::Comes(_) | Doing::Asks => {}
+        }
+    }
+
+    /// Drops the audiences that have been empty for about a second, and their tapes with them. If one were dropped at once, its tape would
+    /// be made again for each spectator of a board whose spectators come and go one after another.
+    pub(crate) fn drop_audiences(&mut self) {
+        let now = self.now();
+        self.audiences.retain(|_, audience| !audience.spectators.is_empty()
+            || audience.left_at >= now);
+    }
+
+    // ---- News.
+
+    /// Takes in what the loop was told of boards. Without memory for that the boards stay as they are until the next turn.
+    pub(crate) fn take_in_events(&mut self) {
+        let _ = self.boards.take_in();
+    }
+
+    /// Looks for news of the board of an audience.
+    pub(crate) fn look_for_news(&mut self, at: usize) -> Result<(), AllocError> {
+        match self.audiences.get_mut(at) {
+            Some(audience) => audience.refresh(&self.boards, &mut self.untold),
+            None => Ok(()),
+        }
+    }
+
+    /// Looks for changes of any board, if anybody watches them all.
+    pub(crate) fn look_for_changes(&mut self) -> Result<(), AllocError> {
+        let now = self.now();
+        self.list.refresh(&self.boards, now, &mut self.untold)
+    }
+}

@@ -1,0 +1,125 @@
+//! What a client is sent: what it is owed, what is new, and what is due as time passes.
+
+use super::Common;
+use crate::client::{Client, Gone};
+use crate::watch_connection::Doing;
+use relay_frames::{Code, outgoing};
+use relay_watching::Tape;
+use server_loop::{Delivery, Stage, Times, Verdict};
+use std::alloc::AllocError;
+
+impl<'a> Common<'a> {
+    /// Writes to a client what is due, as far as its connection takes it.
+    pub(super) fn send(&mut self, client: &mut Client) -> Result<(), Gone> {
+        // Without memory for them, changes are due again at the end of the turn.
+        let _ = self.put_changes(client, false);
+        if client.is_draining {
+            return Ok(());
+        }
+        let now = self.now();
+        let tape = self.tape_of(client);
+        match client.send(tape, now) {
+            Delivery::Failed => return Err(Gone),
+            Delivery::Blocked => {}
+            Delivery::All if client.connection.is_done(tape) => {
+                client.drains(now);
+                self.watches_no_more(client);
+            }
+            Delivery::All => {
+                self.tells_on(client);
+                self.reads_on(client)?;
+            }
+        }
+        Ok(())
+    }
+
+    /// The tape of the board that a client watches, if it watches one.
+    fn tape_of(&self, client: &Client) -> Option<&Tape> {
+        match &client.connection.doing {
+            Doing::Watches(watching) => Some(&self.audiences.get(watching.audience)?.tape),
+            _ => None,
+        }
+    }
+
+    /// Puts the changes of the boards into the output of a client that watches them all, if everything before is written. So a client whose
+    /// connection takes it slowly is not sent what is out of date. The last ones are put there in any case.
+    fn put_changes(&self, client: &mut Client, are_last: bool) -> Result<(), AllocError> {
+        let changes = self.list.changes;
+        let connection = &mut client.connection;
+        if let Doing::WatchesAll(told) = connection.doing {
+            if told != changes && (are_last || connection.has_no_output()) {
+                self.list.put_changes(told, &mut connection.output)?;
+                connection.doing = Doing::WatchesAll(changes);
+            }
+        }
+        Ok(())
+    }
+
+    /// At the end of the turn, sends a client that watches all boards and was sent everything what has changed while that was written.
+    fn tells_on(&mut self, client: &Client) {
+        if let Doing::WatchesAll(told) = client.connection.doing {
+            if told != self.list.changes {
+                self.list.told = 0;
+            }
+        }
+    }
+
+    /// A client that was not heard until what it is owed is written is heard again. Its unfinished message has its time from now on.
+    fn reads_on(&mut self, client: &mut Client) -> Result<(), AllocError> {
+        if client.connection.is_owed_first() || !client.is_full {
+            return Ok(());
+        }
+        client.is_full = false;
+        let is_midway = client.connection.peer.is_midway();
+        client
+            .deadlines
+            .silence
+            .is_heard_again(self.now(), is_midway);
+        self.stands_unread(client)
+    }
+
+    // ---- As time passes.
+
+    /// Does what is due for a client by the second `now`.
+    #[tactic(auto, unfolding(relay_frames::specs::Codes::may_be_sent))]
+    pub(super) fn look_at(&mut self, client: &mut Client, now: u64) -> Result<(), Gone> {
+        let (stage, most_idle) = (client.stage(), self.port.most_idle);
+        match client
+            .deadlines
+            .verdict(&Times::WATCH_PORT, now, stage, most_idle)
+        {
+            Verdict::Stays => Ok(()),
+            Verdict::Ping => {
+                outgoing::ping(b"", &mut client.connection.output)?;
+                self.send(client)
+            }
+            Verdict::Tries => self.send(client),
+            Verdict::Idle => self.close(client, Code::AWAY),
+            Verdict::Stuck => self.close(client, Code::POLICY),
+            Verdict::Gone => Err(Gone),
+        }
+    }
+
+    /// Serving ends: a client that asks for nothing is told so, and so is one that watches a board whose game goes on.
+    #[tactic(auto, unfolding(relay_frames::specs::Codes::may_be_sent))]
+    pub(super) fn tell_of_the_end(&mut self, client: &mut Client) -> Result<(), Gone> {
+        match client.stage() {
+            Stage::Comes => Err(Gone),
+            Stage::Asks => self.close(client, Code::AWAY),
+            Stage::Follows if !self.tape_of(client).is_some_and(|tape| tape.is_over()) => {
+                self.put_changes(client, true)?;
+                self.close(client, Code::AWAY)
+            }
+            Stage::Follows | Stage::Leaves | Stage::Drains => Ok(()),
+        }
+    }
+
+    /// Closes a client's connection with a code.
+    fn close(&mut self, client: &mut Client, code: Code) -> Result<(), Gone> {
+        if client.connection.is_leaving {
+            return Ok(());
+        }
+        client.connection.close(code)?;
+        self.send(client)
+    }
+}
