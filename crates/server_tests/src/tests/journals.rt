@@ -3,5 +3,6 @@
 
 mod bodies;
 mod files;
+mod kept;
 mod restarts;
 mod scribes;

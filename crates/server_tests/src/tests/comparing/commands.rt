@@ -1,18 +1,18 @@
 //! What a connection says, drawn by chance, as bytes.
 
 use crate::tests::chance::{Dice, text_at};
+use crate::tests::parts::{behind, front};
 use crate::tests::sessions::frames::{
-    BINARY, CLOSE, FIRST_PART, LAST_PART, NORMAL, PING, PONG, TEXT, frame,
+    BINARY, CLOSE, FIRST_PART, LAST_PART, NORMAL, PING, PONG, TEXT, add_frame,
 };
+use crate::tests::sessions::rows::Frame;
 use relay_core::BoardName;
 use relay_hall::Hall;
 use std::alloc::{AllocError, Global};
+use std::process::Abort;
 
 /// The names of boards: more than there may be boards.
 static NAMES: [&str; 8] = ["b0", "b1", "b2", "b3", "b4", "b5", "b6", "b7"];
-
-/// What a board that is opened starts from.
-static STARTS: [&str; 8] = ["518", "518", "518", "518", "518", "518", "518", "960"];
 
 /// A cycle of moves.
 static MOVES: [&str; 4] = ["g1f3", "g8f6", "f3g1", "f6g8"];
@@ -51,12 +51,19 @@ const FOLLOWS: u32 = 19;
 /// A text that is too long.
 const TOO_LONG: [u8; 1025] = [b' '; 1025];
 
+/// What is no text that may be a command.
+static OTHER_FRAMES: [Frame; 4] = [
+    (PING, b"here"),
+    (PONG, b""),
+    (BINARY, b"[]"),
+    (TEXT, &TOO_LONG),
+];
+
+/// The pieces of a text.
+type Pieces = [&'static str; 5];
+
 fn names() -> &'static [&'static str] {
     &NAMES
-}
-
-fn starts() -> &'static [&'static str] {
-    &STARTS
 }
 
 fn moves() -> &'static [&'static str] {
@@ -75,6 +82,10 @@ fn others() -> &'static [&'static str] {
     &OTHERS
 }
 
+fn other_frames() -> &'static [Frame] {
+    &OTHER_FRAMES
+}
+
 /// Whether the game of the board of this name goes on.
 fn is_live(hall: &Hall, name: &str) -> bool {
     let Some(name) = BoardName::new(name.as_bytes()) else {
@@ -89,17 +100,28 @@ fn is_live(hall: &Hall, name: &str) -> bool {
     }
 }
 
+/// What a board that is opened starts from: one time in eight from what there is not.
+fn start(dice: &mut Dice) -> &'static str {
+    if dice.below(8) == 7 { "960" } else { "518" }
+}
+
 /// A follow of this board. Of one whose game goes on it would not end by itself: then it is a command that nobody may make.
-fn follow(alloc: Global, dice: &mut Dice, hall: &Hall, name: &str) -> Result<String, AllocError> {
+fn follow(dice: &mut Dice, hall: &Hall, name: &'static str) -> Pieces {
     let from = dice.any(places());
     if is_live(hall, name) {
-        return format!(in alloc; "{{\"cmd\":\"take\",\"spectator\":1}}");
+        return ["{\"cmd\":\"take\",\"spectator\":1}", "", "", "", ""];
     }
-    format!(in alloc; "{{\"cmd\":\"follow\",\"board\":\"{name}\",\"spectator\":1{from}}}")
+    [
+        "{\"cmd\":\"follow\",\"board\":\"",
+        name,
+        "\",\"spectator\":1",
+        from,
+        "}",
+    ]
 }
 
 /// Somebody who speaks, mostly of one board: an operator, who opens it first, or a guest, who mostly asks to follow.
-#[derive(Drop)]
+#[derive(Clone, Copy)]
 pub struct Speaker {
     board: &'static str,
     is_guest: bool,
@@ -150,69 +172,84 @@ impl Speaker {
 }
 
 /// A text that is a command, or nearly one.
-fn text(
-    alloc: Global,
-    dice: &mut Dice,
-    hall: &Hall,
-    speaker: &mut Speaker,
-) -> Result<String, AllocError> {
+fn pieces(dice: &mut Dice, hall: &Hall, speaker: &mut Speaker) -> Pieces {
     let name = speaker.name(dice);
     match speaker.kind(dice) {
         OPENS..=5 => {
-            let start = dice.any(starts());
-            format!(in alloc; "{{\"cmd\":\"open\",\"board\":\"{name}\",\"start\":{start}}}")
+            let start = start(dice);
+            [
+                "{\"cmd\":\"open\",\"board\":\"",
+                name,
+                "\",\"start\":",
+                start,
+                "}",
+            ]
         }
         6..=16 => {
             let played = speaker.played(dice);
-            format!(in alloc; "{{\"cmd\":\"submit\",\"board\":\"{name}\",\"move\":\"{played}\"}}")
+            [
+                "{\"cmd\":\"submit\",\"board\":\"",
+                name,
+                "\",\"move\":\"",
+                played,
+                "\"}",
+            ]
         }
         17..=18 => {
             let how = dice.any(endings());
-            format!(in alloc; "{{\"cmd\":\"end\",\"board\":\"{name}\",{how}}}")
+            ["{\"cmd\":\"end\",\"board\":\"", name, "\",", how, "}"]
         }
-        FOLLOWS..=20 => follow(alloc, dice, hall, name),
-        _ => {
-            let other = dice.any(others());
-            format!(in alloc; "{other}")
-        }
+        FOLLOWS..=20 => follow(dice, hall, name),
+        _ => [dice.any(others()), "", "", "", ""],
     }
 }
 
-/// A text in two frames.
-fn halves(alloc: Global, text: &[u8]) -> Result<Vec<u8>, AllocError> {
-    let middle = text.len() / 2;
-    let mut bytes = frame(alloc, FIRST_PART, &text[..middle])?;
-    let last = frame(alloc, LAST_PART, &text[middle..])?;
-    bytes.extend_from_slice(last.as_slice())?;
-    Ok(bytes)
+/// These pieces, as a text.
+fn joined(rt: &impl Abort, alloc: Global, pieces: &Pieces) -> Vec<u8> {
+    let mut text = Vec::new(alloc);
+    for piece in pieces {
+        text.extend_from_slice(piece.as_bytes())
+            .expect(rt, "memory");
+    }
+    text
 }
 
-/// What a connection says next, as bytes.
-pub fn said(
+/// Appends a text in one frame, or in two.
+fn add_text(bytes: &mut Vec<u8>, text: &[u8], is_whole: bool) -> Result<(), AllocError> {
+    if is_whole {
+        return add_frame(bytes, TEXT, text);
+    }
+    let middle = text.len() / 2;
+    add_frame(bytes, FIRST_PART, front(text, middle))?;
+    add_frame(bytes, LAST_PART, behind(text, middle))
+}
+
+/// Appends what a connection says next.
+pub fn add_said(
+    rt: &impl Abort,
     alloc: Global,
+    bytes: &mut Vec<u8>,
     dice: &mut Dice,
     hall: &Hall,
     speaker: &mut Speaker,
-) -> Result<Vec<u8>, AllocError> {
-    match dice.below(32) {
-        0 => frame(alloc, PING, b"here"),
-        1 => frame(alloc, PONG, b""),
-        2 => frame(alloc, BINARY, b"[]"),
-        3 => frame(alloc, TEXT, &TOO_LONG),
-        4..=5 => halves(alloc, text(alloc, dice, hall, speaker)?.as_str().as_bytes()),
-        _ => frame(
-            alloc,
-            TEXT,
-            text(alloc, dice, hall, speaker)?.as_str().as_bytes(),
-        ),
-    }
+) {
+    let kind = dice.below(32);
+    let added = match other_frames().get(kind as usize) {
+        Some((first, payload)) => add_frame(bytes, *first, payload),
+        None => {
+            let text = joined(rt, alloc, &pieces(dice, hall, speaker));
+            add_text(bytes, text.as_slice(), kind > 5)
+        }
+    };
+    added.expect(rt, "memory");
 }
 
-/// How a connection goes: it closes, with a code or without one, or its stream ends.
-pub fn farewell(alloc: Global, dice: &mut Dice) -> Result<Vec<u8>, AllocError> {
-    match dice.below(4) {
-        0 => Ok(Vec::new(alloc)),
-        1 => frame(alloc, CLOSE, &[]),
-        _ => frame(alloc, CLOSE, NORMAL),
-    }
+/// Appends how a connection goes: it closes, with a code or without one, or its stream ends.
+pub fn add_farewell(rt: &impl Abort, bytes: &mut Vec<u8>, dice: &mut Dice) {
+    let added = match dice.below(4) {
+        0 => Ok(()),
+        1 => add_frame(bytes, CLOSE, &[]),
+        _ => add_frame(bytes, CLOSE, NORMAL),
+    };
+    added.expect(rt, "memory");
 }

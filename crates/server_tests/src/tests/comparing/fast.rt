@@ -1,6 +1,7 @@
 //! A connection that a hall answers from bytes, as the program's server has them, without its loop. What it follows is pushed at once.
 
-use crate::tests::sessions::frames::{REQUEST, behind_head, lines};
+use crate::tests::claims::claim;
+use crate::tests::sessions::frames::{REQUEST, add_lines, behind_head};
 use live_board::Follower;
 use relay_core::Taken;
 use relay_hall::{Hall, Handed};
@@ -74,19 +75,22 @@ pub struct Fast {
     /// What it was sent once it followed.
     pushed: Vec<u8>,
     end: Option<SessionEnd>,
+    /// Once it has gone: the lines that it was sent.
+    told: Vec<u8>,
 }
 
 /// A connection that has sent its request.
 pub fn shaken(rt: &impl Abort, alloc: Global, number: u32) -> Fast {
-    let mut connection = OperatorConnection::new(alloc, u64::from(number), false);
-    assert!(rt; connection.feed(REQUEST).is_ok());
-    Fast {
+    let mut fast = Fast {
         alloc,
-        connection,
+        connection: OperatorConnection::new(alloc, u64::from(number), false),
         sent: Vec::new(alloc),
         pushed: Vec::new(alloc),
         end: None,
-    }
+        told: Vec::new(alloc),
+    };
+    fast.feeds(rt, REQUEST);
+    fast
 }
 
 /// How a session ends whose pushing has ended so, and the line of its close.
@@ -98,10 +102,26 @@ fn closed(end: PushEnd) -> (SessionEnd, &'static [u8]) {
     }
 }
 
+/// How the pushing of a follower ends, which leaves its board then, and what it is pushed.
+fn pushed<R: Wait>(rt: &R, alloc: Global, follower: Follower) -> (PushEnd, Vec<u8>) {
+    let mut source = Taker { follower };
+    let mut outlet = Lines {
+        told: Vec::new(alloc),
+    };
+    let end = push_all(rt, alloc, &mut outlet, &mut source, &Silent);
+    let _ = source.follower.leave();
+    (end, outlet.told)
+}
+
 impl Fast {
+    /// It has read these bytes.
+    fn feeds(&mut self, rt: &impl Abort, bytes: &[u8]) {
+        claim(rt, self.connection.feed(bytes).is_ok(), "memory");
+    }
+
     /// These bytes come.
     pub fn comes<R: Wait + Abort>(&mut self, rt: &R, hall: &mut Hall, bytes: &[u8]) {
-        assert!(rt; self.connection.feed(bytes).is_ok());
+        self.feeds(rt, bytes);
         for _ in 0..=bytes.len() {
             if self.end.is_some() || !self.answers(rt, hall) {
                 break;
@@ -132,25 +152,30 @@ impl Fast {
     /// It is told of the board that it follows, to its end.
     fn follows<R: Wait + Abort>(&mut self, rt: &R, handed: Handed) {
         let Handed { follower, .. } = handed;
-        let mut source = Taker { follower };
-        let mut outlet = Lines {
-            told: Vec::new(self.alloc),
-        };
-        let end = push_all(rt, self.alloc, &mut outlet, &mut source, &Silent);
-        let _ = source.follower.leave();
+        let (end, told) = pushed(rt, self.alloc, follower);
         let (end, close) = closed(end);
-        outlet.told.extend_from_slice(close).expect(rt, "memory");
-        self.pushed = outlet.told;
+        self.pushed = told;
+        self.pushed.extend_from_slice(close).expect(rt, "memory");
         self.end = Some(end);
     }
 
-    /// It goes. Returns how its session ended, and the lines that it was sent.
-    pub fn goes(self, rt: &impl Abort, hall: &mut Hall) -> (SessionEnd, Vec<u8>) {
+    /// It goes.
+    pub fn goes(&mut self, rt: &impl Abort, hall: &mut Hall) {
         hall.leave(self.connection.owner());
         let sent = behind_head(self.sent.as_slice());
-        let mut told = lines(self.alloc, sent).expect(rt, "memory");
-        told.extend_from_slice(self.pushed.as_slice())
-            .expect(rt, "memory");
-        (self.end.unwrap_or(SessionEnd::Failed), told)
+        let added = add_lines(self.alloc, &mut self.told, sent);
+        added.expect(rt, "memory");
+        let pushed = self.pushed.as_slice();
+        self.told.extend_from_slice(pushed).expect(rt, "memory");
+    }
+
+    /// Once it has gone: how its session ended.
+    pub fn end(&self) -> SessionEnd {
+        self.end.unwrap_or(SessionEnd::Failed)
+    }
+
+    /// Once it has gone: the lines that it was sent.
+    pub fn told(&self) -> &[u8] {
+        self.told.as_slice()
     }
 }

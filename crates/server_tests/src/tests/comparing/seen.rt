@@ -1,5 +1,6 @@
 //! What has occurred.
 
+use crate::tests::claims::claim_at;
 use std::process::Abort;
 
 /// What is to occur among the answers: each accepted reply but those of a take and a leave, and each refusal that needs no other thread.
@@ -32,7 +33,7 @@ static WORDS: [&[u8]; 25] = [
 ];
 
 /// Which of the words have occurred.
-#[derive(Drop)]
+#[derive(Clone, Copy)]
 pub struct Seen {
     has: [bool; 25],
 }
@@ -66,7 +67,7 @@ impl Seen {
     /// All have occurred.
     pub fn assert_all(&self, rt: &impl Abort) {
         for (at, has) in self.has.iter().enumerate() {
-            assert!(rt; *has, "{at}");
+            claim_at(rt, *has, "seen", at);
         }
     }
 }

@@ -1,6 +1,8 @@
 //! The rows of `sessions::rows`, through a connection that a hall answers.
 
+use crate::tests::claims::claim_at;
 use crate::tests::comparing::fast::shaken;
+use crate::tests::parts::front;
 use crate::tests::sessions::rows::{Row, input, rows};
 use c960_game::Limits;
 use relay_hall::Hall;
@@ -9,21 +11,21 @@ use std::process::Abort;
 use std::sync::Wait;
 
 /// Whether the session of a peer that sends this ends so and answers so.
-fn talks<R: Wait + Abort>(rt: &R, alloc: Global, hall: &mut Hall, row: Row) -> bool {
-    let (frames, cut, wanted, told, _) = row;
+fn talks<R: Wait + Abort>(rt: &R, alloc: Global, hall: &mut Hall, row: &Row) -> bool {
+    let (frames, cut, wanted, told, _) = *row;
     let bytes = input(alloc, frames).expect(rt, "memory");
     let until = bytes.len().saturating_sub(cut);
     let mut fast = shaken(rt, alloc, 1);
-    fast.comes(rt, hall, &bytes.as_slice()[..until]);
-    let (end, answered) = fast.goes(rt, hall);
-    end == wanted && answered.as_slice() == told
+    fast.comes(rt, hall, front(&bytes, until));
+    fast.goes(rt, hall);
+    fast.end() == wanted && fast.told() == told
 }
 
 #[test]
 fn each_row_is_the_same_through_the_connections_of_the_program(rt: HostRuntime) {
     let limits = Limits::new(16, 64, 64, 1024).expect(&rt, "limits");
     let mut hall = Hall::new(rt.alloc(), limits, 0).expect(&rt, "memory");
-    for row in rows() {
-        assert!(rt; talks(&rt, rt.alloc(), &mut hall, *row));
+    for (at, row) in rows().iter().enumerate() {
+        claim_at(&rt, talks(&rt, rt.alloc(), &mut hall, row), "row", at);
     }
 }

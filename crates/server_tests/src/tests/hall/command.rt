@@ -6,12 +6,10 @@ use crate::tests::hall::answers::{
     WHITE_WINS,
 };
 use crate::tests::hall::plain::{Plain, Speaker};
-use crate::tests::hall::room::TWICE;
+use crate::tests::hall::values::name_text;
 use c960_board::Colour;
 use c960_game::Outcome;
 use c960_game::Result::{BlackWins, Draw, WhiteWins};
-use std::alloc::{AllocError, Global};
-use std::process::Abort;
 
 /// How many names of boards occur: more than there may be boards.
 pub const NAMES: u32 = 20;
@@ -155,16 +153,18 @@ impl Command {
         }
     }
 
-    fn text(self, alloc: Global) -> Result<String, AllocError> {
-        let (word, name, rest) = self.parts();
-        format!(in alloc; "{{\"cmd\":\"{word}\",\"board\":\"b{name}\",{rest}}}")
-    }
-
-    /// Its text.
-    pub fn spelt(self, rt: &impl Abort, alloc: Global) -> String {
-        match self.text(alloc) {
-            Ok(text) => text,
-            Err(AllocError) => self.text(alloc).expect(rt, TWICE),
-        }
+    /// Its text, in pieces.
+    pub fn pieces(self) -> [&'static str; 7] {
+        let (word, board, rest) = self.parts();
+        let name = name_text(board);
+        [
+            "{\"cmd\":\"",
+            word,
+            "\",\"board\":\"",
+            name,
+            "\",",
+            rest,
+            "}",
+        ]
     }
 }

@@ -102,9 +102,14 @@ pub fn key_text(number: usize) -> &'static str {
     text_at(keys(), number)
 }
 
+/// The text of the name of this number.
+pub fn name_text(number: u32) -> &'static str {
+    text_at(names(), number as usize)
+}
+
 /// The name of this number.
 pub fn name(number: u32) -> Option<BoardName> {
-    BoardName::new(text_at(names(), number as usize).as_bytes())
+    BoardName::new(name_text(number).as_bytes())
 }
 
 /// The text of the move of this place.

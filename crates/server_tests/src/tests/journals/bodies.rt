@@ -3,11 +3,11 @@
 use crate::tests::claims::claim_of;
 use relay_hall::Key;
 use relay_journal::{Entry, body_of, entry_in};
-use std::alloc::{AllocError, Global};
-use std::test::Fail;
+use std::alloc::Global;
+use std::process::Abort;
 
 /// Owners and commands as they are written.
-const WRITTEN: [(&str, &str); 15] = [
+static WRITTEN: [(&str, &str); 15] = [
     ("-", r#"{"board":"r1-12","cmd":"open","start":518}"#),
     ("-", r#"{"board":"A","cmd":"open","start":0}"#),
     (
@@ -53,7 +53,7 @@ const WRITTEN: [(&str, &str); 15] = [
 ];
 
 /// What says no entry.
-const NO_ENTRIES: [&str; 9] = [
+static NO_ENTRIES: [&str; 9] = [
     "",
     "-",
     "- ",
@@ -65,55 +65,59 @@ const NO_ENTRIES: [&str; 9] = [
     r#"0123456789abcdef {"board":"r1-12","cmd":"end","how":"agreed"}"#,
 ];
 
-/// An owner and a command as a line says them.
-fn said(alloc: Global, owner: &str, command: &str) -> Result<Vec<u8>, AllocError> {
-    let mut body = owner.as_bytes().to_vec(alloc)?;
-    body.push(b' ')?;
-    body.extend_from_slice(command.as_bytes())?;
-    Ok(body)
+fn written() -> &'static [(&'static str, &'static str)] {
+    &WRITTEN
 }
 
-/// Whether an entry is written as this body.
-fn is_written(
-    alloc: Global,
-    owner: &str,
-    entry: &Option<Entry>,
-    body: &[u8],
-) -> Result<bool, AllocError> {
-    let Some(entry) = entry else {
-        return Ok(false);
-    };
-    Ok(body_of(alloc, owner.as_bytes(), entry)?.as_slice() == body)
+fn no_entries() -> &'static [&'static str] {
+    &NO_ENTRIES
+}
+
+/// An owner and a command as a line says them.
+fn said(rt: &impl Abort, alloc: Global, owner: &str, command: &str) -> Vec<u8> {
+    let mut body = Vec::new(alloc);
+    for part in [owner, " ", command] {
+        body.extend_from_slice(part.as_bytes()).expect(rt, "memory");
+    }
+    body
+}
+
+/// What a line says.
+fn read(rt: &impl Abort, alloc: Global, body: &[u8]) -> Option<Entry> {
+    entry_in(alloc, body).expect(rt, "memory")
+}
+
+/// Whether this body is read, and what is read is written as this body.
+fn is_written(rt: &impl Abort, alloc: Global, owner: &str, body: &[u8]) -> bool {
+    match read(rt, alloc, body) {
+        Some(entry) => {
+            let written = body_of(alloc, owner.as_bytes(), &entry).expect(rt, "memory");
+            written.as_slice() == body
+        }
+        None => false,
+    }
 }
 
 // What is written is read, and written again as it was.
 #[test]
-fn what_is_read_is_written_as_it_was(rt: HostRuntime) -> Result<(), Fail> {
+fn what_is_read_is_written_as_it_was(rt: HostRuntime) {
     // A fault of the kit: it lays out an `Entry` only if the body names the key inside it.
     let _key: Option<Key> = None;
     let alloc = rt.alloc();
-    for (owner, command) in WRITTEN {
-        let body = said(alloc, owner, command)?;
-        let entry = entry_in(alloc, &body)?;
-        let is_same = is_written(alloc, owner, &entry, &body)?;
-        claim_of(&rt, is_same, "the body", command);
+    for (owner, command) in written() {
+        let body = said(&rt, alloc, *owner, *command);
+        let is_same = is_written(&rt, alloc, *owner, &body);
+        claim_of(&rt, is_same, "the body", *command);
     }
-    Ok(())
 }
 
 // No other text says an entry.
 #[test]
-fn other_texts_say_none(rt: HostRuntime) -> Result<(), Fail> {
+fn other_texts_say_none(rt: HostRuntime) {
     // A fault of the kit: it lays out an `Entry` only if the body names the key inside it.
     let _key: Option<Key> = None;
-    let alloc = rt.alloc();
-    for text in NO_ENTRIES {
-        claim_of(
-            &rt,
-            entry_in(alloc, text.as_bytes())?.is_none(),
-            "no entry",
-            text,
-        );
+    for text in no_entries() {
+        let entry = read(&rt, rt.alloc(), text.as_bytes());
+        claim_of(&rt, entry.is_none(), "no entry", *text);
     }
-    Ok(())
 }

@@ -1,10 +1,11 @@
 //! What is read of a file that was changed.
 
-use super::files::{ENDS, LAST_WRITE, behind, end_of, file, flip, front, whole_lines};
+use super::files::{ENDS, LAST_WRITE, end_of, file, flip, whole_lines};
 use crate::tests::claims::{claim, claim_at};
+use crate::tests::parts::{behind, front};
 use chained_lines::{NO_SEAL, Seal, later_write, put_line, sound_part};
-use std::alloc::{AllocError, Global};
-use std::test::Fail;
+use std::alloc::Global;
+use std::process::Abort;
 
 /// The file, by another program: Python's hashlib, with each seal over the seal before, the mark and the body.
 const BY_ANOTHER_PROGRAM: &[u8] =
@@ -46,7 +47,7 @@ fn read_as(lines: &'static [usize], sound: usize, is_damage: bool) -> Row {
 }
 
 /// Another file with lines as long as those of the file, and the same marks.
-fn another(alloc: Global) -> Result<Vec<u8>, AllocError> {
+fn another(rt: &impl Abort, alloc: Global) -> Vec<u8> {
     let mut text = Vec::new(alloc);
     let mut seal: Seal = NO_SEAL;
     let bodies: [(bool, &[u8]); 4] = [
@@ -56,9 +57,9 @@ fn another(alloc: Global) -> Result<Vec<u8>, AllocError> {
         (true, b"five"),
     ];
     for (is_first, body) in bodies {
-        seal = put_line(&mut text, &seal, is_first, body)?;
+        seal = put_line(&mut text, &seal, is_first, body).expect(rt, "memory");
     }
-    Ok(text)
+    text
 }
 
 /// A line of a file by its number.
@@ -69,19 +70,18 @@ fn line(file: &[u8], number: usize) -> &[u8] {
     }
 }
 
-/// These lines, one after another.
-fn joined(alloc: Global, lines: &[usize]) -> Result<Vec<u8>, AllocError> {
-    let file = file(alloc);
-    let another = another(alloc)?;
+/// These lines of a file and of another, one after another.
+fn joined(rt: &impl Abort, alloc: Global, file: &[u8], another: &[u8], lines: &[usize]) -> Vec<u8> {
     let mut text = Vec::new(alloc);
     for number in lines {
-        if *number < 4 {
-            text.extend_from_slice(line(&file, *number))?;
+        let part = if *number < 4 {
+            line(file, *number)
         } else {
-            text.extend_from_slice(line(&another, *number - 4))?;
-        }
+            line(another, *number - 4)
+        };
+        text.extend_from_slice(part).expect(rt, "memory");
     }
-    Ok(text)
+    text
 }
 
 /// How many lines count, and whether what stands behind them is taken for damage.
@@ -103,7 +103,7 @@ fn the_file_is_as_another_program_makes_it(rt: HostRuntime) {
 // Each byte that is changed ends what is read at its line. Unless it is in the last write, or the line feed before that, this is taken for
 // damage.
 #[test]
-fn each_change_is_seen(rt: HostRuntime) -> Result<(), Fail> {
+fn each_change_is_seen(rt: HostRuntime) {
     let alloc = rt.alloc();
     for at in 0..ENDS[3] {
         let mut other = file(alloc);
@@ -111,34 +111,35 @@ fn each_change_is_seen(rt: HostRuntime) -> Result<(), Fail> {
         let seen = looked_at(&other) == (whole_lines(at), at + 1 < LAST_WRITE);
         claim_at(&rt, seen, "a change at", at);
     }
-    Ok(())
 }
 
 // Lines that are swapped, left out, doubled, or of another file end what is read.
 #[test]
-fn each_line_has_its_place(rt: HostRuntime) -> Result<(), Fail> {
+fn each_line_has_its_place(rt: HostRuntime) {
     let alloc = rt.alloc();
+    let file = file(alloc);
+    let another = another(&rt, alloc);
     for (number, row) in rows().iter().enumerate() {
-        let text = joined(alloc, row.lines)?;
-        claim_at(
-            &rt,
-            looked_at(&text) == (row.sound, row.is_damage),
-            "row",
-            number,
-        );
+        let text = joined(&rt, alloc, &file, &another, row.lines);
+        let is_so = looked_at(&text) == (row.sound, row.is_damage);
+        claim_at(&rt, is_so, "row", number);
     }
-    Ok(())
+}
+
+/// Whether damage is found there: at this line, and at this byte.
+fn is_found(text: &[u8], line: usize, byte: usize) -> bool {
+    match later_write(text) {
+        Some(found) => found.line == line && found.byte == byte,
+        None => false,
+    }
 }
 
 // Where damage is found: the line feeds and the bytes before the line with the mark.
 #[test]
-fn damage_has_a_place(rt: HostRuntime) -> Result<(), Fail> {
+fn damage_has_a_place(rt: HostRuntime) {
     let mut text = file(rt.alloc());
     flip(&mut text, 3);
-    let found = later_write(&text).map(|found| (found.line, found.byte));
-    claim(&rt, found == Some((1, 21)), "the line behind the first");
+    claim(&rt, is_found(&text, 1, 21), "the line behind the first");
     flip(&mut text, 37);
-    let found = later_write(&text).map(|found| (found.line, found.byte));
-    claim(&rt, found == Some((3, LAST_WRITE)), "the last line");
-    Ok(())
+    claim(&rt, is_found(&text, 3, LAST_WRITE), "the last line");
 }

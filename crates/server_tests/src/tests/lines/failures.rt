@@ -1,14 +1,16 @@
 //! A storage that fails, or has no more room.
 
-use super::files::{ENDS, ample, file, front, whole_lines, written};
+use super::files::{ENDS, ample, file, whole_lines, written};
 use crate::tests::claims::{claim, claim_at};
 use crate::tests::lines::memory::Memory;
+use crate::tests::parts::front;
 use chained_lines::{Journal, NO_SEAL, NoteError, sound_part};
+use std::alloc::Global;
 use std::process::Abort;
 
 /// For each number of calls that are answered, two for a write: how many bytes were written, how many of them synced, and how many commits
 /// were done.
-const AT_CALLS: [(usize, usize, usize); 7] = [
+static AT_CALLS: [(usize, usize, usize); 7] = [
     (0, 0, 0),
     (21, 0, 0),
     (21, 21, 1),
@@ -17,6 +19,10 @@ const AT_CALLS: [(usize, usize, usize); 7] = [
     (90, 68, 2),
     (90, 90, 3),
 ];
+
+fn at_calls() -> &'static [(usize, usize, usize)] {
+    &AT_CALLS
+}
 
 /// How many lines so many commits have.
 const COMMITTED: [usize; 4] = [0, 1, 3, 4];
@@ -37,28 +43,31 @@ fn claim_kept(rt: &impl Abort, storage: &Memory, done: usize, at: usize) {
     }
 }
 
+/// The storage is written to until its call of this number, and has then so many bytes and synced so many, in so many commits.
+fn claim_calls(
+    rt: &impl Abort,
+    alloc: Global,
+    file: &[u8],
+    calls: usize,
+    (bytes, synced, done): (usize, usize, usize),
+) {
+    let mut storage = ample(alloc, usize::MAX);
+    storage.calls = calls;
+    let (storage, commits) = written(alloc, storage);
+    let is_front = storage.bytes.as_slice() == front(file, bytes);
+    claim_at(rt, is_front, "bytes at", calls);
+    let is_synced = storage.synced == synced && commits == done;
+    claim_at(rt, is_synced, "commits at", calls);
+    claim_kept(rt, &storage, commits, calls);
+}
+
 // A storage that fails at a call is written to no more, and what was committed before is kept.
 #[test]
 fn each_call_may_fail(rt: HostRuntime) {
     let alloc = rt.alloc();
     let file = file(alloc);
-    for (calls, (bytes, synced, done)) in AT_CALLS.into_iter().enumerate() {
-        let mut storage = ample(alloc, usize::MAX);
-        storage.calls = calls;
-        let (storage, commits) = written(alloc, storage);
-        claim_at(
-            &rt,
-            storage.bytes.as_slice() == front(&file, bytes),
-            "bytes at",
-            calls,
-        );
-        claim_at(
-            &rt,
-            storage.synced == synced && commits == done,
-            "commits at",
-            calls,
-        );
-        claim_kept(&rt, &storage, commits, calls);
+    for (calls, row) in at_calls().iter().enumerate() {
+        claim_calls(&rt, alloc, &file, calls, *row);
     }
 }
 
@@ -76,28 +85,25 @@ fn each_call_for_a_piece_may_fail(rt: HostRuntime) {
     }
 }
 
+/// A storage with room for so many bytes has a front of the file, of which the whole lines are read.
+fn claim_room(rt: &impl Abort, alloc: Global, file: &[u8], room: usize) {
+    let mut storage = ample(alloc, 7);
+    storage.room = room;
+    let (storage, done) = written(alloc, storage);
+    let is_front = storage.bytes.as_slice() == front(file, room);
+    claim_at(rt, is_front, "front in a room of", room);
+    let is_read = sound_part(&storage.bytes).lines == whole_lines(room);
+    claim_at(rt, is_read, "lines in a room of", room);
+    claim_kept(rt, &storage, done, room);
+}
+
 // A storage without room takes a front of the file, of which the whole lines are read.
 #[test]
 fn room_may_end_at_each_byte(rt: HostRuntime) {
     let alloc = rt.alloc();
     let file = file(alloc);
     for room in 0..=ENDS[3] {
-        let mut storage = ample(alloc, 7);
-        storage.room = room;
-        let (storage, done) = written(alloc, storage);
-        claim_at(
-            &rt,
-            storage.bytes.as_slice() == front(&file, room),
-            "front in a room of",
-            room,
-        );
-        claim_at(
-            &rt,
-            sound_part(&storage.bytes).lines == whole_lines(room),
-            "lines in a room of",
-            room,
-        );
-        claim_kept(&rt, &storage, done, room);
+        claim_room(&rt, alloc, &file, room);
     }
 }
 

@@ -52,7 +52,13 @@ pub fn file(alloc: Global) -> Vec<u8> {
 
 /// How many lines end within so many bytes.
 pub fn whole_lines(bytes: usize) -> usize {
-    ENDS.iter().filter(|end| **end <= bytes).count()
+    let mut count = 0usize;
+    for end in ENDS {
+        if end <= bytes {
+            count = count.wrapping_add(1);
+        }
+    }
+    count
 }
 
 /// How many bytes so many lines have.
@@ -64,16 +70,6 @@ pub fn end_of(lines: usize) -> usize {
         Some(end) => *end,
         None => 0,
     }
-}
-
-/// The first so many bytes, or all if they are fewer.
-pub fn front(bytes: &[u8], count: usize) -> &[u8] {
-    &bytes[..count.min(bytes.len())]
-}
-
-/// What stands behind so many bytes.
-pub fn behind(bytes: &[u8], count: usize) -> &[u8] {
-    &bytes[count.min(bytes.len())..]
 }
 
 /// Changes one bit of the byte at this place.

@@ -1,7 +1,11 @@
 //! Worked cases.
 
+use crate::tests::claims::claim;
+use crate::tests::loopback::peer::Client;
 use crate::tests::loopback::served::serving;
 use relay_server::{Gate, OpenGate};
+use std::alloc::Global;
+use std::process::Abort;
 use std::sync::Arc;
 use std::sync::atomic::{AtomicBool, AtomicU64, Ordering};
 
@@ -18,16 +22,22 @@ const FOLLOW_B1_FROM_0: &[u8] = b"{\"cmd\":\"follow\",\"board\":\"b1\",\"spectat
 const FOLLOWING: &[u8] =
     b"{\"fen\":\"rnbqkbnr/pppppppp/8/8/8/8/PPPPPPPP/RNBQKBNR w HAha - 0 1\",\"joined\":0,\"reply\":\"following\"}";
 
-const SUBMITS: [&[u8]; 3] = [
-    b"{\"cmd\":\"submit\",\"board\":\"b1\",\"move\":\"e2e4\"}",
-    b"{\"cmd\":\"submit\",\"board\":\"b1\",\"move\":\"e7e5\"}",
-    b"{\"cmd\":\"submit\",\"board\":\"b1\",\"move\":\"g1f3\"}",
-];
+const BLACK_MOVES: &[u8] = b"{\"cmd\":\"submit\",\"board\":\"b1\",\"move\":\"e7e5\"}";
 
-const PLAYED: [&[u8]; 3] = [
-    b"{\"outcome\":null,\"place\":0,\"reply\":\"played\"}",
-    b"{\"outcome\":null,\"place\":1,\"reply\":\"played\"}",
-    b"{\"outcome\":null,\"place\":2,\"reply\":\"played\"}",
+/// Moves, each with the answer to it.
+static PLAYED: [(&[u8], &[u8]); 3] = [
+    (
+        b"{\"cmd\":\"submit\",\"board\":\"b1\",\"move\":\"e2e4\"}",
+        b"{\"outcome\":null,\"place\":0,\"reply\":\"played\"}",
+    ),
+    (
+        BLACK_MOVES,
+        b"{\"outcome\":null,\"place\":1,\"reply\":\"played\"}",
+    ),
+    (
+        b"{\"cmd\":\"submit\",\"board\":\"b1\",\"move\":\"g1f3\"}",
+        b"{\"outcome\":null,\"place\":2,\"reply\":\"played\"}",
+    ),
 ];
 
 const FIRST_MOVE: &[u8] = b"{\"move\":\"e2e4\",\"place\":0,\"reply\":\"move\"}";
@@ -50,21 +60,36 @@ const NOT_YOURS: &[u8] = b"{\"code\":13,\"name\":\"NotYourBoard\",\"reply\":\"re
 
 const NO_BOARD: &[u8] = b"{\"code\":1,\"name\":\"NoSuchBoard\",\"reply\":\"refused\"}";
 
+fn played() -> &'static [(&'static [u8], &'static [u8])] {
+    &PLAYED
+}
+
+/// The owner makes the first so many moves.
+fn plays(rt: &impl Abort, owner: &mut Client, count: usize) {
+    for at in 0..count {
+        let (submit, answer) = played().get(at).expect(rt, "a move");
+        owner.asks(rt, *submit, *answer);
+    }
+}
+
+/// A gate that a server shares with its test.
+fn shared<G: Drop>(rt: &impl Abort, alloc: Global, gate: G) -> Arc<G, Global> {
+    Arc::new(alloc, gate).expect(rt, "memory")
+}
+
 #[test]
 fn a_follower_gets_the_move_and_the_end_and_a_stranger_is_refused(rt: HostRuntime) {
-    let Ok(gate) = Arc::new(rt.alloc(), OpenGate) else {
-        panic!(rt; "memory");
-    };
+    let gate = shared(&rt, rt.alloc(), OpenGate);
     let server = serving(&rt, rt.alloc(), &gate, 3);
     let mut owner = server.client(&rt);
     owner.asks(&rt, OPEN_B1, OPENED);
     let mut follower = server.client(&rt);
     follower.asks(&rt, FOLLOW_B1, FOLLOWING);
-    owner.asks(&rt, SUBMITS[0], PLAYED[0]);
+    plays(&rt, &mut owner, 1);
     follower.hears(&rt, FIRST_MOVE);
     owner.asks(&rt, FOLLOW_B1, WRONG_MODE);
     let mut stranger = server.client(&rt);
-    stranger.asks(&rt, SUBMITS[1], NOT_YOURS);
+    stranger.asks(&rt, BLACK_MOVES, NOT_YOURS);
     stranger.asks(
         &rt,
         b"{\"cmd\":\"submit\",\"board\":\"b9\",\"move\":\"e7e5\"}",
@@ -81,14 +106,11 @@ fn a_follower_gets_the_move_and_the_end_and_a_stranger_is_refused(rt: HostRuntim
 
 #[test]
 fn a_follower_gets_what_was_played_before_and_the_end_of_a_board_that_is_left(rt: HostRuntime) {
-    let Ok(gate) = Arc::new(rt.alloc(), OpenGate) else {
-        panic!(rt; "memory");
-    };
+    let gate = shared(&rt, rt.alloc(), OpenGate);
     let server = serving(&rt, rt.alloc(), &gate, 2);
     let mut owner = server.client(&rt);
     owner.asks(&rt, OPEN_B1, OPENED);
-    owner.asks(&rt, SUBMITS[0], PLAYED[0]);
-    owner.asks(&rt, SUBMITS[1], PLAYED[1]);
+    plays(&rt, &mut owner, 2);
     let mut follower = server.client(&rt);
     follower.asks(&rt, FOLLOW_B1_FROM_0, FOLLOWING);
     follower.hears(&rt, FIRST_MOVE);
@@ -164,9 +186,7 @@ impl Gate for Holding {
 /// The first connection is answered once the second was.
 #[test]
 fn two_at_once(rt: HostRuntime) {
-    let Ok(gate) = Arc::new(rt.alloc(), Holding::new((1, 2), 0)) else {
-        panic!(rt; "memory");
-    };
+    let gate = shared(&rt, rt.alloc(), Holding::new((1, 2), 0));
     let server = serving(&rt, rt.alloc(), &gate, 2);
     let mut first = server.client(&rt);
     let mut second = server.client(&rt);
@@ -176,23 +196,19 @@ fn two_at_once(rt: HostRuntime) {
     first.closes(&rt);
     second.closes(&rt);
     server.ends(&rt, 2);
-    assert!(rt; gate.was_in_time());
+    claim(&rt, gate.was_in_time(), "each was let through in time");
 }
 
 /// The follower is pushed nothing before the third move, which finds its queue full.
 #[test]
 fn a_follower_whose_queue_is_full_is_cut_off(rt: HostRuntime) {
-    let Ok(gate) = Arc::new(rt.alloc(), Holding::new((0, 0), 2)) else {
-        panic!(rt; "memory");
-    };
+    let gate = shared(&rt, rt.alloc(), Holding::new((0, 0), 2));
     let server = serving(&rt, rt.alloc(), &gate, 2);
     let mut owner = server.client(&rt);
     owner.asks(&rt, OPEN_B1, OPENED);
     let mut follower = server.client(&rt);
     follower.asks(&rt, FOLLOW_B1, FOLLOWING);
-    for (submit, played) in SUBMITS.iter().zip(PLAYED.iter()) {
-        owner.asks(&rt, *submit, *played);
-    }
+    plays(&rt, &mut owner, 3);
     gate.open();
     for text in [FIRST_MOVE, SECOND_MOVE, CUT] {
         follower.hears(&rt, text);
@@ -200,5 +216,5 @@ fn a_follower_whose_queue_is_full_is_cut_off(rt: HostRuntime) {
     follower.is_closed(&rt, 4001);
     owner.closes(&rt);
     server.ends(&rt, 2);
-    assert!(rt; gate.was_in_time());
+    claim(&rt, gate.was_in_time(), "each was let through in time");
 }

@@ -1,5 +1,6 @@
 //! A client, which writes and reads WebSocket frames byte by byte.
 
+use crate::tests::claims::claim;
 use crate::tests::sessions::frames::{CLOSE, NORMAL, REQUEST, TEXT, frame};
 use std::alloc::Global;
 use std::io;
@@ -32,14 +33,12 @@ fn read_head(stream: &mut TcpStream) -> io::Result<()> {
     Ok(())
 }
 
-/// Connects and asks for a WebSocket.
-fn connected<R: Net<Stream = TcpStream>>(rt: &R, address: SocketAddr) -> io::Result<TcpStream> {
-    let mut stream = TcpStream::connect(rt, address)?;
+/// Asks for a WebSocket.
+fn asks_for_one(stream: &mut TcpStream) -> io::Result<()> {
     stream.set_nodelay(true)?;
     stream.set_read_timeout(Some(Duration::from_secs(PATIENCE)))?;
     stream.write_all(REQUEST)?;
-    read_head(&mut stream)?;
-    Ok(stream)
+    read_head(stream)
 }
 
 impl Client {
@@ -49,10 +48,9 @@ impl Client {
         alloc: Global,
         address: SocketAddr,
     ) -> Client {
-        Client {
-            alloc,
-            stream: connected(rt, address).expect(rt, "a connection"),
-        }
+        let mut stream = TcpStream::connect(rt, address).expect(rt, "a connection");
+        asks_for_one(&mut stream).expect(rt, "a WebSocket");
+        Client { alloc, stream }
     }
 
     /// Sends a frame.
@@ -66,19 +64,20 @@ impl Client {
         self.sends(rt, TEXT, text);
     }
 
-    /// The first byte of the next frame, and its payload, which has fewer than 126 bytes.
-    fn next(&mut self) -> io::Result<(u8, Vec<u8>)> {
+    /// Whether the next frame begins with this byte and has this payload, which has fewer than 126 bytes.
+    fn is_sent(&mut self, first: u8, payload: &[u8]) -> io::Result<bool> {
         let mut head = [0; 2];
         self.stream.read_exact(&mut head)?;
-        let mut payload = vec![in self.alloc; 0; usize::from(head[1])]?;
-        self.stream.read_exact(payload.as_mut_slice())?;
-        Ok((head[0], payload))
+        let mut bytes = [0; 256];
+        let heard = &mut bytes[..usize::from(head[1])];
+        self.stream.read_exact(heard)?;
+        Ok(head[0] == first && *heard == *payload)
     }
 
     /// The next frame begins with this byte and has this payload.
     fn hears_frame(&mut self, rt: &impl Abort, first: u8, payload: &[u8]) {
-        let heard = self.next().expect(rt, "a frame");
-        assert!(rt; heard.0 == first && heard.1.as_slice() == payload);
+        let is_sent = self.is_sent(first, payload).expect(rt, "a frame");
+        claim(rt, is_sent, "the next frame");
     }
 
     /// The next frame is this text.

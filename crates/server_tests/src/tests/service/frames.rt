@@ -3,9 +3,9 @@
 
 use crate::tests::hall::command::answer_of;
 use crate::tests::hall::room::TWICE;
+use crate::tests::parts::front;
 use crate::tests::service::people::Saying;
 use c960_game::Outcome;
-use std::alloc::Global;
 use std::process::Abort;
 
 /// What follows the target in a request for a WebSocket. The key is that of section 1.3.
@@ -73,13 +73,28 @@ pub fn add(rt: &impl Abort, list: &mut Vec<u8>, bytes: &[u8]) {
     }
 }
 
-/// A frame as a client sends it, masked with zeros.
-pub fn asked(rt: &impl Abort, alloc: Global, first: u8, payload: &[u8]) -> Vec<u8> {
-    let mut bytes = Vec::new(alloc);
-    let size = 0x80 | (payload.len() % 126) as u8;
-    add(rt, &mut bytes, &[first, size, 0, 0, 0, 0]);
-    add(rt, &mut bytes, payload);
-    bytes
+/// Appends the head of a frame as a client sends it, masked with zeros.
+fn ask_head(rt: &impl Abort, bytes: &mut Vec<u8>, first: u8, size: usize) {
+    let size = 0x80 | (size % 126) as u8;
+    add(rt, bytes, &[first, size, 0, 0, 0, 0]);
+}
+
+/// Appends a frame as a client sends it.
+fn ask(rt: &impl Abort, bytes: &mut Vec<u8>, first: u8, payload: &[u8]) {
+    ask_head(rt, bytes, first, payload.len());
+    add(rt, bytes, payload);
+}
+
+/// Appends the frame of a text that consists of these pieces.
+pub fn ask_text(rt: &impl Abort, bytes: &mut Vec<u8>, pieces: &[&'static str]) {
+    let mut size = 0usize;
+    for piece in pieces {
+        size = size.wrapping_add(piece.len());
+    }
+    ask_head(rt, bytes, TEXT, size);
+    for piece in pieces {
+        add(rt, bytes, piece.as_bytes());
+    }
 }
 
 /// Appends a frame as a server sends it.
@@ -106,40 +121,31 @@ pub fn tell_cut(rt: &impl Abort, bytes: &mut Vec<u8>) {
 }
 
 /// Appends that a game has ended so, and the close.
-pub fn tell_over(
-    rt: &impl Abort,
-    alloc: Global,
-    bytes: &mut Vec<u8>,
-    outcome: Outcome,
-    is_ending: bool,
-) {
-    let answer = answer_of(outcome).unwrap_or(ABANDONED);
+pub fn tell_over(rt: &impl Abort, bytes: &mut Vec<u8>, outcome: Outcome, is_ending: bool) {
+    let answer = answer_of(outcome).unwrap_or(ABANDONED).as_bytes();
     let kept = answer.len().saturating_sub(BEHIND_ENDED.len());
-    let (text, _) = answer.as_bytes().split_at(kept.min(answer.len()));
-    let mut over = Vec::new(alloc);
-    add(rt, &mut over, text);
-    add(rt, &mut over, BEHIND_OVER.as_bytes());
-    tell(rt, bytes, TEXT, over.as_slice());
+    let size = kept.wrapping_add(BEHIND_OVER.len());
+    add(rt, bytes, &[TEXT, (size % 126) as u8]);
+    add(rt, bytes, front(answer, kept));
+    add(rt, bytes, BEHIND_OVER.as_bytes());
     tell_close(rt, bytes, if is_ending { 1001 } else { 1000 });
 }
 
-/// A message that nobody answers.
-fn message(rt: &impl Abort, alloc: Global) -> Vec<u8> {
-    let mut bytes = Vec::new(alloc);
-    add(rt, &mut bytes, MESSAGE_HEAD);
+/// Appends a message that nobody answers.
+fn say_message(rt: &impl Abort, bytes: &mut Vec<u8>) {
+    add(rt, bytes, MESSAGE_HEAD);
     for _ in 0..120u32 {
-        add(rt, &mut bytes, HUNDRED.as_slice());
+        add(rt, bytes, HUNDRED.as_slice());
     }
-    bytes
 }
 
-/// The bytes of what is said.
-pub fn said(rt: &impl Abort, alloc: Global, saying: Saying) -> Vec<u8> {
+/// Appends the bytes of what is said.
+pub fn say(rt: &impl Abort, bytes: &mut Vec<u8>, saying: Saying) {
     match saying {
-        Saying::Ping => asked(rt, alloc, PING, PAYLOAD),
-        Saying::Pong => asked(rt, alloc, PONG, b""),
-        Saying::Message => message(rt, alloc),
-        Saying::Close => asked(rt, alloc, CLOSE, &[0x03, 0xe8]),
-        Saying::Breach => asked(rt, alloc, 0xc1, b""),
+        Saying::Ping => ask(rt, bytes, PING, PAYLOAD),
+        Saying::Pong => ask(rt, bytes, PONG, b""),
+        Saying::Message => say_message(rt, bytes),
+        Saying::Close => ask(rt, bytes, CLOSE, &[0x03, 0xe8]),
+        Saying::Breach => ask(rt, bytes, 0xc1, b""),
     }
 }

@@ -65,7 +65,23 @@ pub struct Person {
 pub fn people(rt: &impl Abort, alloc: Global) -> Vec<Person> {
     let mut all = room(rt, alloc, PEOPLE as usize);
     for _ in 0..PEOPLE {
-        let person = Person {
+        if all.len() < all.capacity() {
+            all.push_reserved(Person::new(alloc));
+        }
+    }
+    all
+}
+
+/// Removes the first `n` bytes, or all.
+pub fn remove_first(bytes: &mut Vec<u8>, n: usize) {
+    let n = n.min(bytes.len());
+    bytes.drain(..n);
+}
+
+impl Person {
+    /// Nobody yet.
+    fn new(alloc: Global) -> Person {
+        Person {
             course: Course::Away,
             number: 0,
             speaker: Speaker {
@@ -79,19 +95,9 @@ pub fn people(rt: &impl Abort, alloc: Global) -> Vec<Person> {
             board: 0,
             next: 0,
             unanswered: 0,
-        };
-        all.push(person).expect(rt, "there is room");
+        }
     }
-    all
-}
 
-/// Removes the first `n` bytes, or all.
-pub fn remove_first(bytes: &mut Vec<u8>, n: usize) {
-    let n = n.min(bytes.len());
-    bytes.drain(..n);
-}
-
-impl Person {
     /// It begins anew, with this number and this key.
     pub fn begins(&mut self, number: u64, key: usize) {
         self.course = Course::Comes;

@@ -1,6 +1,7 @@
 //! Random events: sixty connections, six keys, three graces, and bytes in pieces of any size. After each event the service shows what the
 //! plain model has, and to each connection is due what the model answered it.
 
+use crate::tests::claims::{claim, claim_of};
 use crate::tests::hall::answers::{
     AGREED, BAD_START, BLACK_LOSES_ON_TIME, BLACK_RESIGNS, BLACK_WINS, BOARD_EXISTS, CLAIM_REFUSED,
     DRAWN, GAME_OVER, ILLEGAL, LOG_FULL, NO_SUCH_BOARD, NOT_YET, NOT_YOUR_BOARD, OPENED, THREEFOLD,
@@ -72,14 +73,14 @@ fn run_one(rt: &impl Abort, alloc: Global, grace: u64, seed: u32, seen: &mut See
     for _ in 0..EVENTS {
         scene.happens(rt, people.as_mut_slice());
     }
-    assert!(rt; scene.refused == 0);
-    seen.note_all(&scene.plain.seen);
+    claim(rt, scene.refused == 0, "no memory was refused");
+    scene.notes(seen);
 }
 
 /// All of these words have occurred, or none.
 fn assert_seen(rt: &impl Abort, seen: &Seen, words: &'static [&'static str], all: bool) {
     for word in words {
-        assert!(rt; seen.has(*word) == all, "{word}");
+        claim_of(rt, seen.has(*word) == all, "the occurrence", *word);
     }
 }
 

@@ -9,10 +9,11 @@ use crate::tests::claims::claim;
 use crate::tests::hall::command::Command;
 use crate::tests::hall::comparing::{is_quiet, shows, tells, was_changed};
 use crate::tests::hall::plain::{Answer, BOARDS, CAPACITY, FOLLOWERS, KEYS, PLIES, Plain};
-use crate::tests::hall::room::{TWICE, room};
+use crate::tests::hall::room::TWICE;
+use crate::tests::hall::seen::Seen;
 use crate::tests::hall::values::{Values, key_text, text_of};
 use crate::tests::service::frames::{
-    ACCEPTED, BEHIND_TARGET, PING, TEXT, add, asked, tell, tell_close,
+    ACCEPTED, BEHIND_TARGET, PING, TEXT, add, ask_text, tell, tell_close,
 };
 use crate::tests::service::people::{Course, PEOPLE, Person, Saying, remove_first};
 use c960_board::Move;
@@ -38,7 +39,6 @@ fn codes() -> &'static [u16] {
 /// A service and its model.
 #[derive(Drop)]
 pub struct Scene {
-    alloc: Global,
     dice: Dice,
     service: Service,
     pub plain: Plain,
@@ -76,7 +76,6 @@ fn stage_of(course: Course) -> Option<Stage> {
 impl Scene {
     pub fn new(rt: &impl Abort, alloc: Global, grace: u64, seed: u32) -> Scene {
         Scene {
-            alloc,
             dice: Dice { seed },
             service: made(rt, alloc, grace),
             plain: Plain::new(rt, alloc, grace),
@@ -99,6 +98,11 @@ impl Scene {
             _ => self.somebody(rt, people),
         }
         self.assert_shown(rt);
+    }
+
+    /// Notes what has occurred.
+    pub fn notes(&self, seen: &mut Seen) {
+        seen.note_all(&self.plain.seen);
     }
 
     /// The service shows and tells what the model has.
@@ -180,7 +184,7 @@ impl Scene {
 
     /// Whether more go than come.
     fn ebbs(&self) -> bool {
-        (EBB..FLOOD).contains(&self.events)
+        self.events >= EBB && self.events < FLOOD
     }
 
     /// A connection comes, or one that is there acts.
@@ -273,8 +277,8 @@ impl Scene {
 
     /// A connection is going to send this command.
     fn asks(&self, rt: &impl Abort, person: &mut Person, command: Command) {
-        let text = command.spelt(rt, self.alloc);
-        person.unsent = asked(rt, self.alloc, TEXT, text.as_str().as_bytes());
+        person.unsent.clear();
+        ask_text(rt, &mut person.unsent, &command.pieces());
         person.command = Some(command);
     }
 

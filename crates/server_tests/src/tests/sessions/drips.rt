@@ -1,44 +1,19 @@
 //! Sessions whose bytes arrive one by one behind the request, and leave two by two, each after a call that was interrupted. They are the
 //! same as those whose bytes arrive in one piece.
 
-use crate::tests::sessions::frames::{REQUEST, behind_head, lines};
+use crate::tests::claims::claim_at;
+use crate::tests::parts::front;
+use crate::tests::sessions::frames::{behind_head, lines};
 use crate::tests::sessions::gates::Counted;
+use crate::tests::sessions::peers::Peer;
 use crate::tests::sessions::rows::{Row, input, registry, rows};
-use relay_server::{Registry, session};
-use std::alloc::{AllocError, Global};
+use relay_server::{Gate, Registry, SessionEnd, session};
+use std::alloc::Global;
 use std::io;
-use std::io::{ErrorKind, Read, Write};
+use std::io::{ErrorKind, Write};
+use std::process::Abort;
 use std::sync::Wait;
-use std::test::Fail;
 use tungstenite::Duplex;
-
-/// A request in one piece, and bytes that come one by one.
-#[derive(Drop)]
-struct Drips<'a> {
-    request: &'a [u8],
-    left: &'a [u8],
-    was_interrupted: bool,
-}
-
-impl Read for Drips<'_> {
-    fn read(&mut self, buf: &mut [u8]) -> io::Result<usize> {
-        if !self.request.is_empty() {
-            return self.request.read(buf);
-        }
-        self.was_interrupted = !self.was_interrupted;
-        if self.was_interrupted {
-            return Err(io::Error::from(ErrorKind::Interrupted));
-        }
-        match (self.left.split_first(), buf.first_mut()) {
-            (Some((byte, rest)), Some(place)) => {
-                *place = *byte;
-                self.left = rest;
-                Ok(1)
-            }
-            _ => Ok(0),
-        }
-    }
-}
 
 /// A writer that takes two bytes at most. It is not interrupted before it has the response: what waits for that asks once.
 #[derive(Drop)]
@@ -67,41 +42,40 @@ impl Write for Sips<'_> {
     }
 }
 
-/// Whether the session of a peer that sends this ends so and answers so, and its gate is notified so often.
-fn talks<R: Wait>(
+/// How the session of a peer ends whose bytes come so, and what it is sent.
+fn dripped<R: Wait, G: Gate>(
     rt: &R,
     alloc: Global,
     registry: &Registry,
-    (frames, cut, wanted, told, calls): Row,
-) -> Result<bool, AllocError> {
-    let bytes = input(alloc, frames)?;
-    let until = bytes.len().saturating_sub(cut);
-    let mut sent = Vec::new(alloc);
-    let stream = Duplex {
-        reader: Drips {
-            request: REQUEST,
-            left: &bytes.as_slice()[..until],
-            was_interrupted: false,
-        },
-        writer: Sips {
-            taken: &mut sent,
-            has_response: false,
-            was_interrupted: false,
-        },
+    bytes: &[u8],
+    gate: &G,
+    sent: &mut Vec<u8>,
+) -> SessionEnd {
+    let reader = Peer::dripping(bytes);
+    let writer = Sips {
+        taken: sent,
+        has_response: false,
+        was_interrupted: false,
     };
+    session(rt, alloc, registry, 1, Duplex { reader, writer }, gate)
+}
+
+/// Whether the session of a peer that sends this ends so and answers so, and its gate is notified so often.
+fn talks<R: Wait + Abort>(rt: &R, alloc: Global, registry: &Registry, row: &Row) -> bool {
+    let (frames, cut, wanted, told, calls) = *row;
+    let bytes = input(alloc, frames).expect(rt, "memory");
+    let until = bytes.len().saturating_sub(cut);
     let gate = Counted::new();
-    let end = session(rt, alloc, registry, 1, stream, &gate);
-    let answered = lines(alloc, behind_head(sent.as_slice()))?;
-    Ok(end == wanted && gate.counts() == calls && answered.as_slice() == told)
+    let mut sent = Vec::new(alloc);
+    let end = dripped(rt, alloc, registry, front(&bytes, until), &gate, &mut sent);
+    let answered = lines(alloc, behind_head(sent.as_slice())).expect(rt, "memory");
+    end == wanted && gate.counts() == calls && answered.as_slice() == told
 }
 
 #[test]
-fn calls_that_are_interrupted_and_bytes_that_come_one_by_one_change_nothing(
-    rt: HostRuntime,
-) -> Result<(), Fail> {
-    let shared = registry(rt.alloc())?;
-    for row in rows() {
-        assert!(rt; talks(&rt, rt.alloc(), &shared, *row)?);
+fn calls_that_are_interrupted_and_bytes_that_come_one_by_one_change_nothing(rt: HostRuntime) {
+    let shared = registry(&rt, rt.alloc());
+    for (at, row) in rows().iter().enumerate() {
+        claim_at(&rt, talks(&rt, rt.alloc(), &shared, row), "row", at);
     }
-    Ok(())
 }

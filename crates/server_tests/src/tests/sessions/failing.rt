@@ -1,43 +1,17 @@
 //! Sessions over a device that fails: how they end, that nothing more is written, and that their boards are over.
 
+use crate::tests::claims::{claim, claim_at};
 use crate::tests::sessions::frames::{REQUEST, TEXT};
+use crate::tests::sessions::peers::Peer;
 use crate::tests::sessions::rows::{input, registry, talked};
 use crate::tests::sessions::texts::{FOLLOW_B1, owner_frames};
 use relay_server::{OpenGate, Registry, SessionEnd, session};
-use std::alloc::{AllocError, Global};
+use std::alloc::Global;
 use std::io;
-use std::io::{ErrorKind, Read, Write};
+use std::io::{ErrorKind, Write};
+use std::process::Abort;
 use std::sync::Wait;
-use std::test::Fail;
 use tungstenite::Duplex;
-
-/// A reader that gives a request, or what there is of one, in one piece, and these bytes one a read, and then fails, or ends if there is no
-/// failure.
-#[derive(Drop)]
-struct FailingReader<'a> {
-    request: &'a [u8],
-    left: &'a [u8],
-    failure: Option<ErrorKind>,
-}
-
-impl Read for FailingReader<'_> {
-    fn read(&mut self, buf: &mut [u8]) -> io::Result<usize> {
-        if !self.request.is_empty() {
-            return self.request.read(buf);
-        }
-        match (self.left.split_first(), buf.first_mut()) {
-            (Some((byte, rest)), Some(place)) => {
-                *place = *byte;
-                self.left = rest;
-                Ok(1)
-            }
-            _ => match self.failure {
-                Some(kind) => Err(io::Error::from(kind)),
-                None => Ok(0),
-            },
-        }
-    }
-}
 
 /// A writer that takes this many bytes, then fails once, and would take all others.
 #[derive(Drop)]
@@ -72,44 +46,44 @@ impl Write for FailingWriter<'_> {
 }
 
 /// Failures of a device.
-const DEVICE: [ErrorKind; 4] = [
+static DEVICE: [ErrorKind; 4] = [
     ErrorKind::TimedOut,
     ErrorKind::WouldBlock,
     ErrorKind::ConnectionReset,
     ErrorKind::BrokenPipe,
 ];
 
+fn failures() -> &'static [ErrorKind] {
+    &DEVICE
+}
+
 /// How the session of an owner ends if its reads give this many bytes of what it sends and then fail in this way, or end.
-fn end_of_owner<R: Wait, W: Write + Drop>(
+fn end_of_owner<R: Wait + Abort, W: Write + Drop>(
     rt: &R,
     alloc: Global,
     registry: &Registry,
     (until, failure): (usize, Option<ErrorKind>),
     writer: W,
-) -> Result<SessionEnd, AllocError> {
-    let bytes = input(alloc, owner_frames())?;
-    let reader = FailingReader {
-        request: &REQUEST[..until.min(REQUEST.len())],
-        left: &bytes.as_slice()[..until.saturating_sub(REQUEST.len()).min(bytes.len())],
-        failure,
-    };
-    let stream = Duplex { reader, writer };
-    Ok(session(rt, alloc, registry, 1, stream, &OpenGate))
+) -> SessionEnd {
+    let bytes = input(alloc, owner_frames()).expect(rt, "memory");
+    let reader = Peer::failing(&bytes, until, failure);
+    session(rt, alloc, registry, 1, Duplex { reader, writer }, &OpenGate)
 }
 
 /// How a session ends whose reads give this many bytes of an owner and then fail in this way, or end.
-fn end_of_reading<R: Wait>(
+fn end_of_reading<R: Wait + Abort>(
     rt: &R,
     alloc: Global,
     until: usize,
     failure: Option<ErrorKind>,
-) -> Result<SessionEnd, AllocError> {
+) -> SessionEnd {
+    let shared = registry(rt, alloc);
     let mut sent = Vec::new(alloc);
-    end_of_owner(rt, alloc, &registry(alloc)?, (until, failure), &mut sent)
+    end_of_owner(rt, alloc, &shared, (until, failure), &mut sent)
 }
 
 /// How many bytes are read before a read fails or is the end, and how the session ends then: in the handshake, behind it, and in a frame.
-const READS: [(usize, SessionEnd); 5] = [
+static READS: [(usize, SessionEnd); 5] = [
     (0, SessionEnd::NoHandshake),
     (20, SessionEnd::NoHandshake),
     (REQUEST.len() - 1, SessionEnd::NoHandshake),
@@ -117,25 +91,41 @@ const READS: [(usize, SessionEnd); 5] = [
     (REQUEST.len() + 9, SessionEnd::Failed),
 ];
 
+fn reads() -> &'static [(usize, SessionEnd)] {
+    &READS
+}
+
 #[test]
-fn a_read_that_fails_ends_the_handshake_or_the_session(rt: HostRuntime) -> Result<(), Fail> {
-    for (until, wanted) in READS {
-        assert!(rt; end_of_reading(&rt, rt.alloc(), until, None)? == wanted);
-        for kind in DEVICE {
-            assert!(rt; end_of_reading(&rt, rt.alloc(), until, Some(kind))? == wanted);
+fn a_read_that_fails_ends_the_handshake_or_the_session(rt: HostRuntime) {
+    let alloc = rt.alloc();
+    for (until, wanted) in reads() {
+        let end = end_of_reading(&rt, alloc, *until, None);
+        claim_at(&rt, end == *wanted, "the end behind", *until);
+        for kind in failures() {
+            let end = end_of_reading(&rt, alloc, *until, Some(*kind));
+            claim_at(&rt, end == *wanted, "a failure behind", *until);
         }
     }
     // Only lack of memory is not the peer's fault.
-    let wanting = end_of_reading(&rt, rt.alloc(), 20, Some(ErrorKind::OutOfMemory))?;
-    assert!(rt; wanting == SessionEnd::Failed);
-    Ok(())
+    let wanting = end_of_reading(&rt, alloc, 20, Some(ErrorKind::OutOfMemory));
+    claim(&rt, wanting == SessionEnd::Failed, "lack of memory");
 }
 
-/// What a guest of board b1 is told once its owner's session is over.
-fn told_of_b1<R: Wait>(rt: &R, alloc: Global, registry: &Registry) -> Result<Vec<u8>, AllocError> {
-    let follow = [(TEXT, FOLLOW_B1)];
-    let (_, told) = talked(rt, alloc, registry, 2, &follow, &OpenGate)?;
-    Ok(told)
+/// Whether a guest of board b1, once its owner's session is over, is told that the board is over or, if it was not opened, that there is
+/// none.
+fn is_told_of_b1<R: Wait + Abort>(
+    rt: &R,
+    alloc: Global,
+    registry: &Registry,
+    was_opened: bool,
+) -> bool {
+    let bytes = input(alloc, &[(TEXT, FOLLOW_B1)]).expect(rt, "memory");
+    let (_, told) = talked(rt, alloc, registry, 2, Peer::new(&bytes), &OpenGate);
+    if was_opened {
+        told.as_slice().ends_with(ABANDONED)
+    } else {
+        told.as_slice() == NO_BOARD
+    }
 }
 
 const NO_BOARD: &[u8] = b"{\"code\":1,\"name\":\"NoSuchBoard\",\"reply\":\"refused\"}\n";
@@ -144,7 +134,7 @@ const ABANDONED: &[u8] = b"{\"outcome\":\"abandoned\",\"reply\":\"over\"}\nclose
 
 /// How many bytes are written before a write fails, and how the session ends then: they are a part of the response; all of it; a part of
 /// the first answer, all of it, and a part of the second. Behind the response the board was opened by then.
-const WRITES: [(usize, SessionEnd); 5] = [
+static WRITES: [(usize, SessionEnd); 5] = [
     (100, SessionEnd::NoHandshake),
     (129, SessionEnd::Failed),
     (140, SessionEnd::Failed),
@@ -152,15 +142,19 @@ const WRITES: [(usize, SessionEnd); 5] = [
     (160, SessionEnd::Failed),
 ];
 
+fn writes() -> &'static [(usize, SessionEnd)] {
+    &WRITES
+}
+
 /// Whether a session whose writes take this many bytes and then fail in this way ends so and writes no more, and its board is over if it
 /// was opened.
-fn fails_for_good<R: Wait>(
+fn fails_for_good<R: Wait + Abort>(
     rt: &R,
     alloc: Global,
     (room, wanted): (usize, SessionEnd),
     kind: ErrorKind,
-) -> Result<bool, AllocError> {
-    let shared = registry(alloc)?;
+) -> bool {
+    let shared = registry(rt, alloc);
     let mut sent = Vec::new(alloc);
     let writer = FailingWriter {
         taken: &mut sent,
@@ -168,22 +162,17 @@ fn fails_for_good<R: Wait>(
         kind,
         has_failed: false,
     };
-    let end = end_of_owner(rt, alloc, &shared, (usize::MAX, Some(kind)), writer)?;
-    let told = told_of_b1(rt, alloc, &shared)?;
-    let is_told = if wanted == SessionEnd::Failed {
-        told.as_slice().ends_with(ABANDONED)
-    } else {
-        told.as_slice() == NO_BOARD
-    };
-    Ok(end == wanted && sent.len() == room && is_told)
+    let end = end_of_owner(rt, alloc, &shared, (usize::MAX, Some(kind)), writer);
+    let is_told = is_told_of_b1(rt, alloc, &shared, wanted == SessionEnd::Failed);
+    end == wanted && sent.len() == room && is_told
 }
 
 #[test]
-fn a_write_that_fails_is_the_last_and_the_boards_are_over(rt: HostRuntime) -> Result<(), Fail> {
-    for row in WRITES {
-        for kind in DEVICE {
-            assert!(rt; fails_for_good(&rt, rt.alloc(), row, kind)?);
+fn a_write_that_fails_is_the_last_and_the_boards_are_over(rt: HostRuntime) {
+    for row in writes() {
+        for kind in failures() {
+            let fails = fails_for_good(&rt, rt.alloc(), *row, *kind);
+            claim_at(&rt, fails, "fails behind", row.0);
         }
     }
-    Ok(())
 }

@@ -27,19 +27,23 @@ pub const LAST_PART: u8 = 0x80;
 /// What a close says that has the code 1000.
 pub const NORMAL: &[u8] = &[0x03, 0xe8];
 
-/// A frame with a mask of zeros.
-pub fn frame(alloc: Global, first: u8, payload: &[u8]) -> Result<Vec<u8>, AllocError> {
-    let mut bytes = Vec::new(alloc);
-    bytes.extend_from_slice(&[first])?;
+/// Appends a frame with a mask of zeros.
+pub fn add_frame(bytes: &mut Vec<u8>, first: u8, payload: &[u8]) -> Result<(), AllocError> {
     let len = payload.len();
     if len < 126 {
-        bytes.extend_from_slice(&[0x80 | len as u8])?;
+        bytes.extend_from_slice(&[first, 0x80 | len as u8])?;
     } else {
-        let long = [0xfe, (len / 256 % 256) as u8, (len % 256) as u8];
+        let long = [first, 0xfe, (len / 256 % 256) as u8, (len % 256) as u8];
         bytes.extend_from_slice(&long)?;
     }
     bytes.extend_from_slice(&[0; 4])?;
-    bytes.extend_from_slice(payload)?;
+    bytes.extend_from_slice(payload)
+}
+
+/// A frame with a mask of zeros.
+pub fn frame(alloc: Global, first: u8, payload: &[u8]) -> Result<Vec<u8>, AllocError> {
+    let mut bytes = Vec::new(alloc);
+    add_frame(&mut bytes, first, payload)?;
     Ok(bytes)
 }
 
@@ -54,36 +58,56 @@ pub fn behind_head(sent: &[u8]) -> &[u8] {
     &[]
 }
 
-/// What a server sent, frame by frame, as lines: a text as it is, a close as `close` and its code, anything else as its opcode.
-pub fn lines(alloc: Global, sent: &[u8]) -> Result<Vec<u8>, AllocError> {
-    let mut lines = Vec::new(alloc);
+/// Appends a word and a number.
+fn add_number(
+    alloc: Global,
+    lines: &mut Vec<u8>,
+    word: &str,
+    number: u16,
+) -> Result<(), AllocError> {
+    let text = format!(in alloc; "{word} {number}")?;
+    lines.extend_from_slice(text.as_bytes())
+}
+
+/// Appends the line of a frame.
+fn add_line(
+    alloc: Global,
+    lines: &mut Vec<u8>,
+    first: u8,
+    payload: &[u8],
+) -> Result<(), AllocError> {
+    match first {
+        TEXT => lines.extend_from_slice(payload)?,
+        CLOSE if payload.len() >= 2 => {
+            let code = u16::from(payload[0]) * 256 + u16::from(payload[1]);
+            add_number(alloc, lines, "close", code)?;
+        }
+        other => add_number(alloc, lines, "opcode", u16::from(other))?,
+    }
+    lines.extend_from_slice(b"\n")
+}
+
+/// Appends the lines of what a server sent.
+pub fn add_lines(alloc: Global, lines: &mut Vec<u8>, sent: &[u8]) -> Result<(), AllocError> {
     let mut at = 0;
     for _ in 0..sent.len() {
         if at >= sent.len() || sent.len() - at < 2 {
             break;
         }
-        let first = sent[at];
         let len = usize::from(sent[at + 1]);
         let start = at + 2;
         if len > 125 || sent.len() - start < len {
-            lines.extend_from_slice(b"long\n")?;
-            break;
+            return lines.extend_from_slice(b"long\n");
         }
-        let payload = &sent[start..start + len];
-        match first {
-            TEXT => lines.extend_from_slice(payload)?,
-            CLOSE if len >= 2 => {
-                let code = u16::from(payload[0]) * 256 + u16::from(payload[1]);
-                let text = format!(in alloc; "close {code}")?;
-                lines.extend_from_slice(text.as_bytes())?;
-            }
-            other => {
-                let text = format!(in alloc; "opcode {other}")?;
-                lines.extend_from_slice(text.as_bytes())?;
-            }
-        }
-        lines.extend_from_slice(b"\n")?;
+        add_line(alloc, lines, sent[at], &sent[start..start + len])?;
         at = start + len;
     }
+    Ok(())
+}
+
+/// What a server sent, frame by frame, as lines: a text as it is, a close as `close` and its code, anything else as its opcode.
+pub fn lines(alloc: Global, sent: &[u8]) -> Result<Vec<u8>, AllocError> {
+    let mut lines = Vec::new(alloc);
+    add_lines(alloc, &mut lines, sent)?;
     Ok(lines)
 }

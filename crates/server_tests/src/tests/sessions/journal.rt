@@ -49,20 +49,21 @@ impl Journal {
 /// A stream whose peer sends these pieces, none longer than a read asks for. Each read gives one, and after the last the peer has gone.
 #[derive(Drop)]
 pub struct NotedStream<'a> {
-    pub pieces: &'a [Vec<u8>],
+    pub pieces: &'a [&'a [u8]],
+    /// How many of them were read.
+    pub count: usize,
     pub journal: &'a Journal,
 }
 
 impl Read for NotedStream<'_> {
     fn read(&mut self, buf: &mut [u8]) -> io::Result<usize> {
         self.journal.note("read");
-        let Some((piece, rest)) = self.pieces.split_first() else {
+        let Some(piece) = self.pieces.get(self.count) else {
             return Ok(0);
         };
-        let n = piece.len().min(buf.len());
-        buf[..n].copy_from_slice(&piece.as_slice()[..n]);
-        self.pieces = rest;
-        Ok(n)
+        self.count = self.count.wrapping_add(1);
+        let mut piece = *piece;
+        piece.read(buf)
     }
 }
 

@@ -1,18 +1,17 @@
 //! What a session asks of its stream and of its gate, in order.
 
-use crate::tests::sessions::frames::{
-    CLOSE, NORMAL, PONG, REQUEST, TEXT, behind_head, frame, lines,
-};
+use crate::tests::claims::{claim, claim_at};
+use crate::tests::parts::{behind, front};
+use crate::tests::sessions::frames::{CLOSE, NORMAL, PONG, REQUEST, TEXT};
 use crate::tests::sessions::journal::{Journal, NotedGate, NotedStream};
-use crate::tests::sessions::rows::registry;
+use crate::tests::sessions::rows::{Frame, input, registry, talked};
 use crate::tests::sessions::texts::{FOLLOW_B1_FROM_0, OPEN_B1, SUBMIT_E2E4, SUBMIT_E7E5};
 use relay_server::{OpenGate, Registry, SessionEnd, session};
-use std::alloc::{AllocError, Global};
+use std::alloc::Global;
 use std::io;
 use std::io::Read;
+use std::process::Abort;
 use std::sync::Wait;
-use std::test::Fail;
-use tungstenite::Duplex;
 
 /// An owner sends its request; then the command to open and one half of a move; then the other half and a second move; then a close.
 ///
@@ -52,12 +51,13 @@ fn asks<R: Wait>(
     rt: &R,
     alloc: Global,
     registry: &Registry,
-    pieces: &[Vec<u8>],
+    pieces: &[&[u8]],
     (wanted, calls): (SessionEnd, &str),
 ) -> bool {
     let journal = Journal::new(alloc);
     let stream = NotedStream {
         pieces,
+        count: 0,
         journal: &journal,
     };
     let gate = NotedGate { journal: &journal };
@@ -65,59 +65,78 @@ fn asks<R: Wait>(
     end == wanted && journal.has(calls)
 }
 
-/// These bytes, as a vector.
-fn bytes(alloc: Global, bytes: &[u8]) -> Result<Vec<u8>, AllocError> {
-    let mut copied = Vec::new(alloc);
-    copied.extend_from_slice(bytes)?;
-    Ok(copied)
+/// How many bytes a frame has besides its payload: its first byte, its size and its mask.
+const HEAD: usize = 6;
+
+/// What the owner sends behind its request.
+static OWNER: [Frame; 4] = [
+    (TEXT, OPEN_B1),
+    (TEXT, SUBMIT_E2E4),
+    (TEXT, SUBMIT_E7E5),
+    (CLOSE, NORMAL),
+];
+
+/// How many bytes its second piece has, and its third.
+const SECOND: usize = HEAD + OPEN_B1.len() + (HEAD + SUBMIT_E2E4.len()) / 2;
+
+const THIRD: usize = 3 * HEAD + OPEN_B1.len() + SUBMIT_E2E4.len() + SUBMIT_E7E5.len() - SECOND;
+
+/// What the follower sends behind its request.
+static FOLLOWER: [Frame; 1] = [(TEXT, FOLLOW_B1_FROM_0)];
+
+/// What a peer sends before a frame that breaks the rules.
+static BEFORE: [Frame; 2] = [(TEXT, OPEN_B1), (TEXT, SUBMIT_E2E4)];
+
+/// What the owner sends, what the follower sends, and what is sent before a breach.
+fn sent() -> [&'static [Frame]; 3] {
+    [&OWNER, &FOLLOWER, &BEFORE]
 }
 
-/// What the owner sends, piece by piece.
-fn owner(alloc: Global) -> Result<Vec<Vec<u8>>, AllocError> {
-    let mut first = frame(alloc, TEXT, OPEN_B1)?;
-    let half = frame(alloc, TEXT, SUBMIT_E2E4)?;
-    let middle = half.len() / 2;
-    first.extend_from_slice(&half.as_slice()[..middle])?;
-    let mut second = bytes(alloc, &half.as_slice()[middle..])?;
-    second.extend_from_slice(frame(alloc, TEXT, SUBMIT_E7E5)?.as_slice())?;
-    let close = frame(alloc, CLOSE, NORMAL)?;
-    Ok(vec![in alloc; bytes(alloc, REQUEST)?, first, second, close]?)
+/// Whether the owner's session asks for what it is to.
+fn asks_for_an_owner<R: Wait + Abort>(rt: &R, alloc: Global, registry: &Registry) -> bool {
+    let bytes = input(alloc, sent()[0]).expect(rt, "memory");
+    let rest = behind(&bytes, SECOND);
+    let pieces = [
+        REQUEST,
+        front(&bytes, SECOND),
+        front(rest, THIRD),
+        behind(rest, THIRD),
+    ];
+    let told = (SessionEnd::Closed, of_an_owner());
+    asks(rt, alloc, registry, &pieces, told)
 }
 
-/// What the follower sends, piece by piece.
-fn follower(alloc: Global) -> Result<Vec<Vec<u8>>, AllocError> {
-    let follow = frame(alloc, TEXT, FOLLOW_B1_FROM_0)?;
-    Ok(vec![in alloc; bytes(alloc, REQUEST)?, follow]?)
+/// Whether the follower's session asks for what it is to.
+fn asks_for_a_follower<R: Wait + Abort>(rt: &R, alloc: Global, registry: &Registry) -> bool {
+    let bytes = input(alloc, sent()[1]).expect(rt, "memory");
+    let told = (SessionEnd::Over, of_a_follower());
+    asks(rt, alloc, registry, &[REQUEST, bytes.as_slice()], told)
 }
 
-/// What a peer sends with this frame after its second command.
-fn breach(alloc: Global, broken: &[u8]) -> Result<Vec<Vec<u8>>, AllocError> {
-    let mut piece = frame(alloc, TEXT, OPEN_B1)?;
-    piece.extend_from_slice(frame(alloc, TEXT, SUBMIT_E2E4)?.as_slice())?;
-    piece.extend_from_slice(broken)?;
-    Ok(vec![in alloc; bytes(alloc, REQUEST)?, piece]?)
+/// Whether the session of a peer that sends this frame behind its second command asks for what it is to.
+fn asks_until_a_breach<R: Wait + Abort>(rt: &R, alloc: Global, broken: &[u8]) -> bool {
+    let shared = registry(rt, alloc);
+    let mut bytes = input(alloc, sent()[2]).expect(rt, "memory");
+    bytes.extend_from_slice(broken).expect(rt, "memory");
+    let told = (SessionEnd::Failed, of_a_breach());
+    asks(rt, alloc, &shared, &[REQUEST, bytes.as_slice()], told)
 }
 
 #[test]
-fn each_call_comes_in_its_turn(rt: HostRuntime) -> Result<(), Fail> {
-    let alloc = rt.alloc();
-    let shared = registry(alloc)?;
-    let owned = (SessionEnd::Closed, of_an_owner());
-    assert!(rt; asks(&rt, alloc, &shared, owner(alloc)?.as_slice(), owned));
-    let followed = (SessionEnd::Over, of_a_follower());
-    assert!(rt; asks(&rt, alloc, &shared, follower(alloc)?.as_slice(), followed));
-    Ok(())
+fn each_call_comes_in_its_turn(rt: HostRuntime) {
+    let shared = registry(&rt, rt.alloc());
+    let is_asked = asks_for_an_owner(&rt, rt.alloc(), &shared);
+    claim(&rt, is_asked, "for an owner");
+    let is_asked = asks_for_a_follower(&rt, rt.alloc(), &shared);
+    claim(&rt, is_asked, "for a follower");
 }
 
 #[test]
-fn each_call_comes_in_its_turn_at_a_breach(rt: HostRuntime) -> Result<(), Fail> {
-    let alloc = rt.alloc();
-    for broken in broken_frames() {
-        let pieces = breach(alloc, *broken)?;
-        let told = (SessionEnd::Failed, of_a_breach());
-        assert!(rt; asks(&rt, alloc, &registry(alloc)?, pieces.as_slice(), told));
+fn each_call_comes_in_its_turn_at_a_breach(rt: HostRuntime) {
+    for (at, broken) in broken_frames().iter().enumerate() {
+        let is_asked = asks_until_a_breach(&rt, rt.alloc(), *broken);
+        claim_at(&rt, is_asked, "until the breach", at);
     }
-    Ok(())
 }
 
 /// A pong without payload, as a client sends it.
@@ -147,29 +166,25 @@ impl Read for Endless<'_> {
 }
 
 /// Pongs, one after another.
-fn many_pongs(alloc: Global) -> Result<Vec<u8>, AllocError> {
+fn many_pongs(rt: &impl Abort, alloc: Global) -> Vec<u8> {
     let mut bytes = Vec::new(alloc);
     for _ in 0..PONGS {
-        bytes.extend_from_slice(PONG_FRAME)?;
+        bytes.extend_from_slice(PONG_FRAME).expect(rt, "memory");
     }
-    Ok(bytes)
+    bytes
 }
 
 #[test]
-fn behind_a_million_messages_the_session_closes(rt: HostRuntime) -> Result<(), Fail> {
+fn behind_a_million_messages_the_session_closes(rt: HostRuntime) {
     let alloc = rt.alloc();
-    let pongs = many_pongs(alloc)?;
-    let mut sent = Vec::new(alloc);
-    let stream = Duplex {
-        reader: Endless {
-            has_asked: false,
-            bytes: pongs.as_slice(),
-        },
-        writer: &mut sent,
+    let shared = registry(&rt, alloc);
+    let pongs = many_pongs(&rt, alloc);
+    let peer = Endless {
+        has_asked: false,
+        bytes: pongs.as_slice(),
     };
-    let end = session(&rt, alloc, &registry(alloc)?, 1, stream, &OpenGate);
-    assert!(rt; end == SessionEnd::Closed);
-    let told = lines(alloc, behind_head(sent.as_slice()))?;
-    assert!(rt; told.as_slice() == b"close 1000\n".as_slice());
-    Ok(())
+    let (end, told) = talked(&rt, alloc, &shared, 1, peer, &OpenGate);
+    claim(&rt, end == SessionEnd::Closed, "the end");
+    let is_told = told.as_slice() == b"close 1000\n".as_slice();
+    claim(&rt, is_told, "what is told");
 }

@@ -1,6 +1,8 @@
 //! Lack of memory. If one allocation is refused, each in turn, a session says so or ends, its boards are ended, and later sessions
 //! find the registry in order.
 
+use crate::tests::claims::claim;
+use crate::tests::hall::room::{TWICE, room};
 use crate::tests::sessions::frames::{CLOSE, NORMAL, TEXT, behind_head, lines};
 use crate::tests::sessions::peers::Peer;
 use crate::tests::sessions::rows::{Frame, input};
@@ -12,32 +14,34 @@ use std::process::Abort;
 use std::sync::Wait;
 use tungstenite::Duplex;
 
-/// What a call makes, which is made again if there was no memory for it.
-fn again<T, F: Fn() -> Result<T, AllocError>>(rt: &impl Abort, make: F) -> T
-    requires { F.IsAlwaysCallable make }
-{
-    match make() {
-        Ok(made) => made,
-        Err(AllocError) => make().expect(rt, "one refusal at the most"),
+/// A registry with one board and one follower at a time, so that anything not given back is noticed.
+fn new_registry(rt: &impl Abort, alloc: Global) -> Registry {
+    let limits = Limits::new(1, 1, 2, 1024).expect(rt, "limits");
+    match Registry::new(alloc, limits) {
+        Ok(registry) => registry,
+        Err(AllocError) => Registry::new(alloc, limits).expect(rt, TWICE),
     }
 }
 
-/// A registry with one board and one follower at a time, so that anything not given back is noticed.
-fn new_registry(rt: &impl Abort, alloc: Global) -> Registry {
-    let Some(limits) = Limits::new(1, 1, 2, 1024) else {
-        panic!(rt; "limits in range");
-    };
-    again(rt, || Registry::new(alloc, limits))
+/// These frames, as bytes.
+fn bytes_of(rt: &impl Abort, alloc: Global, frames: &[Frame]) -> Vec<u8> {
+    match input(alloc, frames) {
+        Ok(bytes) => bytes,
+        Err(AllocError) => input(alloc, frames).expect(rt, TWICE),
+    }
 }
 
-/// How many bytes a peer takes: more than any session here sends.
+/// What was sent, as lines.
+fn lines_of(rt: &impl Abort, alloc: Global, sent: &[u8]) -> Vec<u8> {
+    match lines(alloc, sent) {
+        Ok(told) => told,
+        Err(AllocError) => lines(alloc, sent).expect(rt, TWICE),
+    }
+}
+
+/// How many bytes a peer takes: more than any session here sends. Its room is reserved from the start: if a peer had none while something
+/// is sent to it, that would be a device that fails, and not lack of memory in the session.
 const ROOM: usize = 1024;
-
-/// What a peer was sent, which is nothing yet. Its room is reserved from the start: if a peer had none while something is sent to it, that
-/// would be a device that fails, and not lack of memory in the session.
-fn peer(rt: &impl Abort, alloc: Global) -> Vec<u8> {
-    again(rt, || Vec::with_capacity(alloc, ROOM))
-}
 
 /// How a session over these frames ends, and the lines of what it sends after the response.
 fn talk<R: Wait + Abort>(
@@ -47,15 +51,14 @@ fn talk<R: Wait + Abort>(
     connection: u32,
     frames: &[Frame],
 ) -> (SessionEnd, Vec<u8>) {
-    let bytes = again(rt, || input(alloc, frames));
-    let mut sent = peer(rt, alloc);
+    let bytes = bytes_of(rt, alloc, frames);
+    let mut sent: Vec<u8> = room(rt, alloc, ROOM);
     let stream = Duplex {
         reader: Peer::new(bytes.as_slice()),
         writer: &mut sent,
     };
     let end = session(rt, alloc, registry, connection, stream, &OpenGate);
-    let texts = behind_head(sent.as_slice());
-    (end, again(rt, || lines(alloc, texts)))
+    (end, lines_of(rt, alloc, behind_head(sent.as_slice())))
 }
 
 fn owned() -> &'static [u8] {
@@ -96,19 +99,36 @@ fn guests_told<R: Wait + Abort>(rt: &R, alloc: Global, registry: &Registry, want
     count
 }
 
+/// Whether the session of an owner is as if no memory had been refused.
+fn is_owned<R: Wait + Abort>(rt: &R, alloc: Global, registry: &Registry) -> bool {
+    let (end, told) = talk(rt, alloc, registry, 1, owner_frames());
+    end == SessionEnd::Closed && told.as_slice() == owned()
+}
+
+/// Whether an owner may leave that guests are told this: of the board with its move, of the board alone, or of no board.
+fn may_be_left(told: &[u8]) -> bool {
+    told == followed() || told == no_move() || told == no_such_board()
+}
+
+/// What the guests find is what the owner left.
+fn claim_left<R: Wait + Abort>(rt: &R, alloc: Global, registry: &Registry) {
+    let (_, left) = talk(rt, alloc, registry, 9, guest_frames());
+    claim(rt, may_be_left(left.as_slice()), "what is left");
+    let count = guests_told(rt, alloc, registry, left.as_slice());
+    claim(rt, count == 3, "each guest is told the same");
+}
+
 #[test]
 fn a_refusal_ends_the_boards_and_leaves_no_seat_taken(rt: HostRuntime) {
-    let registry = new_registry(&rt, rt.alloc());
-    let (end, told) = talk(&rt, rt.alloc(), &registry, 1, owner_frames());
-    if end == SessionEnd::Closed && told.as_slice() == owned() {
+    let alloc = rt.alloc();
+    let registry = new_registry(&rt, alloc);
+    if is_owned(&rt, alloc, &registry) {
         // The one refusal may hit a guest, and then the next one finds the place free.
-        assert!(rt; guests_told(&rt, rt.alloc(), &registry, followed()) >= 2);
-        return;
+        let count = guests_told(&rt, alloc, &registry, followed());
+        claim(&rt, count >= 2, "guests follow");
+    } else {
+        claim_left(&rt, alloc, &registry);
     }
-    // What the guests find is what the owner left: the board with its move, the board alone, or no board.
-    let (_, left) = talk(&rt, rt.alloc(), &registry, 9, guest_frames());
-    assert!(rt; [followed(), no_move(), no_such_board()].contains(&left.as_slice()));
-    assert_eq!(rt; guests_told(&rt, rt.alloc(), &registry, left.as_slice()), 3);
 }
 
 static OPENER: [Frame; 4] = [
@@ -135,18 +155,21 @@ fn told_to_it() -> &'static [&'static [u8]] {
     &TOLD
 }
 
+/// Whether these are such answers: all of them, or some of them if the session had ended.
+fn may_be_told(told: &[u8], is_whole: bool) -> bool {
+    for whole in told_to_it() {
+        if told == *whole || (!is_whole && whole.starts_with(told)) {
+            return true;
+        }
+    }
+    false
+}
+
 #[test]
 fn a_name_that_stands_takes_no_memory(rt: HostRuntime) {
     let registry = new_registry(&rt, rt.alloc());
     let (end, told) = talk(&rt, rt.alloc(), &registry, 1, opener_frames());
-    if end == SessionEnd::Closed {
-        assert!(rt; told_to_it().contains(&told.as_slice()));
-    } else {
-        // A session for which there was no memory ends after some of these.
-        assert!(rt;
-            told_to_it()
-                .iter()
-                .any(|whole| whole.starts_with(told.as_slice()))
-        );
-    }
+    // A session for which there was no memory ends after some of these.
+    let may_be_told = may_be_told(told.as_slice(), end == SessionEnd::Closed);
+    claim(&rt, may_be_told, "what is told");
 }

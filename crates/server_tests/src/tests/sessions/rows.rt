@@ -1,12 +1,13 @@
 //! What peers send over a stream in memory, and how their sessions end.
 
 use crate::tests::sessions::frames::{
-    BINARY, CLOSE, FIRST_PART, LAST_PART, NORMAL, PING, TEXT, behind_head, frame, lines,
+    BINARY, CLOSE, FIRST_PART, LAST_PART, NORMAL, PING, TEXT, add_frame, behind_head, lines,
 };
-use crate::tests::sessions::peers::Peer;
 use c960_game::Limits;
 use relay_server::{Gate, Registry, SessionEnd, session};
 use std::alloc::{AllocError, Global};
+use std::io::Read;
+use std::process::Abort;
 use std::sync::Wait;
 use tungstenite::Duplex;
 
@@ -104,37 +105,49 @@ pub fn rows() -> &'static [Row] {
 }
 
 /// A registry with the default limits.
-pub fn registry(alloc: Global) -> Result<Registry, AllocError> {
-    match Limits::new(16, 64, 64, 1024) {
-        Some(limits) => Registry::new(alloc, limits),
-        None => Err(AllocError),
-    }
+pub fn registry(rt: &impl Abort, alloc: Global) -> Registry {
+    let limits = Limits::new(16, 64, 64, 1024).expect(rt, "limits");
+    Registry::new(alloc, limits).expect(rt, "memory")
 }
 
 /// These frames, as bytes.
 pub fn input(alloc: Global, frames: &[Frame]) -> Result<Vec<u8>, AllocError> {
     let mut bytes = Vec::new(alloc);
     for (first, payload) in frames {
-        bytes.extend_from_slice(frame(alloc, *first, payload)?.as_slice())?;
+        add_frame(&mut bytes, *first, payload)?;
     }
     Ok(bytes)
 }
 
-/// How the session of a peer that sends these frames ends, and what it answers, as lines.
-pub fn talked<R: Wait, G: Gate>(
+/// How the session of a peer ends, and what it is answered, as lines.
+pub fn talked<R: Wait + Abort, P: Read + Drop, G: Gate>(
     rt: &R,
     alloc: Global,
     registry: &Registry,
     connection: u32,
-    frames: &[Frame],
+    peer: P,
     gate: &G,
-) -> Result<(SessionEnd, Vec<u8>), AllocError> {
-    let bytes = input(alloc, frames)?;
+) -> (SessionEnd, Vec<u8>) {
     let mut sent = Vec::new(alloc);
     let stream = Duplex {
-        reader: Peer::new(bytes.as_slice()),
+        reader: peer,
         writer: &mut sent,
     };
     let end = session(rt, alloc, registry, connection, stream, gate);
-    Ok((end, lines(alloc, behind_head(sent.as_slice()))?))
+    let told = lines(alloc, behind_head(sent.as_slice())).expect(rt, "memory");
+    (end, told)
+}
+
+/// Whether the session of a peer ends so, and is answered in these lines.
+pub fn is_told<R: Wait + Abort, P: Read + Drop, G: Gate>(
+    rt: &R,
+    alloc: Global,
+    registry: &Registry,
+    connection: u32,
+    peer: P,
+    gate: &G,
+    wanted: (SessionEnd, &[u8]),
+) -> bool {
+    let (end, told) = talked(rt, alloc, registry, connection, peer, gate);
+    end == wanted.0 && told.as_slice() == wanted.1
 }

@@ -4,7 +4,7 @@ use crate::tests::claims::claim;
 use crate::tests::hall::plain::{CAPACITY, Row};
 use crate::tests::hall::room::TWICE;
 use crate::tests::service::frames::{
-    MESSAGE, PAYLOAD, PONG, said, tell, tell_close, tell_cut, tell_move, tell_over,
+    MESSAGE, PAYLOAD, PONG, say, tell, tell_close, tell_cut, tell_move, tell_over,
 };
 use crate::tests::service::people::{Course, Person, Saying};
 use crate::tests::service::scene::Scene;
@@ -30,7 +30,8 @@ impl Scene {
     /// A connection that follows says something. One that was through while it said it is not answered.
     pub fn begins_to_say(&mut self, rt: &impl Abort, person: &mut Person) {
         let saying = self.saying();
-        person.unsent = said(rt, self.alloc, saying);
+        person.unsent.clear();
+        say(rt, &mut person.unsent, saying);
         person.saying = Some(saying);
     }
 
@@ -112,7 +113,7 @@ impl Scene {
         } else if row.outcome.is_none() && due == 0 {
             self.plain.seen.note("nothing yet");
         } else if let Some(outcome) = row.outcome {
-            tell_over(rt, self.alloc, &mut person.due, outcome, self.is_ending);
+            tell_over(rt, &mut person.due, outcome, self.is_ending);
             let word = if self.is_ending {
                 "over, as the server ends"
             } else {

@@ -28,13 +28,18 @@ impl Scene {
 
     /// Whether a connection was answered that there is no memory for its command. Then nothing has changed.
     pub fn has_no_memory(&mut self, rt: &impl Abort, person: &mut Person) -> bool {
-        let output = self.service.output(person.number);
-        if !output.ends_with(NO_MEMORY.as_bytes()) {
-            return false;
+        let wants = self.wants_memory(person);
+        if wants {
+            self.is_refused(rt);
+            tell(rt, &mut person.due, TEXT, NO_MEMORY.as_bytes());
         }
-        self.is_refused(rt);
-        tell(rt, &mut person.due, TEXT, NO_MEMORY.as_bytes());
-        true
+        wants
+    }
+
+    /// Whether what is due to a connection ends so.
+    fn wants_memory(&self, person: &Person) -> bool {
+        let output = self.service.output(person.number);
+        output.ends_with(NO_MEMORY.as_bytes())
     }
 
     /// Whether the service answers something that a connection said; none if the connection is lost.
