@@ -9,9 +9,12 @@ use relay_journal::{Entry, FIRST_BODY, Unfit, read_entries};
 use std::alloc::Global;
 use std::process::Abort;
 
+/// The first board is opened.
+const OPENING: &[u8] = b"0123456789abcdef {\"board\":\"kept\",\"cmd\":\"open\",\"start\":518}";
+
 /// Three boards: of a key, of nobody, and of the key again, whose game is over.
-pub const BODIES: [&[u8]; 7] = [
-    b"0123456789abcdef {\"board\":\"kept\",\"cmd\":\"open\",\"start\":518}",
+static BODIES: [&[u8]; 7] = [
+    OPENING,
     b"- {\"board\":\"left\",\"cmd\":\"open\",\"start\":4}",
     b"0123456789abcdef {\"board\":\"over\",\"cmd\":\"open\",\"start\":518}",
     b"- {\"board\":\"kept\",\"cmd\":\"submit\",\"move\":\"e2e4\"}",
@@ -19,6 +22,10 @@ pub const BODIES: [&[u8]; 7] = [
     b"- {\"board\":\"kept\",\"cmd\":\"submit\",\"move\":\"e7e5\"}",
     b"- {\"board\":\"kept\",\"cmd\":\"submit\",\"move\":\"g1f3\"}",
 ];
+
+pub fn bodies() -> &'static [&'static [u8]] {
+    &BODIES
+}
 
 /// The entries of the bodies.
 fn entries(rt: &impl Abort, alloc: Global, bodies: &[&[u8]]) -> Vec<Entry> {
@@ -78,7 +85,7 @@ fn claim_grace(rt: &impl Abort, hall: &mut Hall, until: u64) {
 // Boards of a key go on, and wait for the whole grace from the restart. A game of nobody is ended as abandoned.
 #[test]
 fn boards_of_a_key_wait(rt: HostRuntime) {
-    let mut kept = fitting(&rt, rt.alloc(), &BODIES, 30_000);
+    let mut kept = fitting(&rt, rt.alloc(), bodies(), 30_000);
     let hall = &mut kept.hall;
     claim(&rt, hall.len() == 3, "three boards");
     let is_so = is_board(&rt, hall, 0, 3, None);
@@ -94,18 +101,24 @@ fn boards_of_a_key_wait(rt: HostRuntime) {
 // Without a grace nobody can come back, and all games are ended.
 #[test]
 fn without_a_grace_all_games_are_ended(rt: HostRuntime) {
-    let hall = fitting(&rt, rt.alloc(), &BODIES, 0).hall;
-    let is_so = is_board(&rt, &hall, 0, 3, Some(Outcome::Abandoned));
+    let kept = fitting(&rt, rt.alloc(), bodies(), 0);
+    let is_so = is_board(&rt, &kept.hall, 0, 3, Some(Outcome::Abandoned));
     claim(&rt, is_so, "the game of the key");
-    claim(&rt, hall.next_due().is_none(), "nothing waits");
+    claim(&rt, kept.hall.next_due().is_none(), "nothing waits");
+}
+
+/// How many boards the hall of the first so many bodies has.
+fn boards_of(rt: &impl Abort, alloc: Global, count: usize) -> usize {
+    let front = bodies().get(..count).unwrap_or(&[]);
+    let kept = fitting(rt, alloc, front, 30_000);
+    kept.hall.len()
 }
 
 // Each front of the entries is a hall, whose boards are those that were opened.
 #[test]
 fn each_front_is_a_hall(rt: HostRuntime) {
-    for count in 0..=BODIES.len() {
-        let kept = fitting(&rt, rt.alloc(), &BODIES[..count], 30_000);
-        let boards = kept.hall.len();
+    for count in 0..=bodies().len() {
+        let boards = boards_of(&rt, rt.alloc(), count);
         claim_at(&rt, boards == count.min(3), "boards of entries", count);
     }
 }
@@ -114,8 +127,8 @@ fn each_front_is_a_hall(rt: HostRuntime) {
 #[test]
 fn what_does_not_fit_is_told(rt: HostRuntime) {
     let alloc = rt.alloc();
-    let long = refused(&rt, alloc, &BODIES, 2);
+    let long = refused(&rt, alloc, bodies(), 2);
     claim(&rt, long == Some(6), "a third move");
-    let doubled = refused(&rt, alloc, &[BODIES[0], BODIES[0]], 64);
+    let doubled = refused(&rt, alloc, &[OPENING, OPENING], 64);
     claim(&rt, doubled == Some(1), "a board again");
 }

@@ -2,7 +2,7 @@
 
 use super::files::storage_of;
 use super::kept::Kept;
-use super::restarts::{BODIES, fitting};
+use super::restarts::{bodies, fitting};
 use crate::tests::claims::{claim, claim_at};
 use c960_board::{Colour, read_move};
 use c960_game::{Ending, Limits};
@@ -178,7 +178,7 @@ fn many_events_are_noted_at_once(rt: HostRuntime) {
 
 /// How many entries there are once a recovery with this grace is committed.
 fn after_recovery(rt: &impl Abort, alloc: Global, grace: u64) -> usize {
-    let mut kept = fitting(rt, alloc, &BODIES, grace);
+    let mut kept = fitting(rt, alloc, bodies(), grace);
     claim(rt, !kept.is_settled(), "ends were noted");
     claim(rt, kept.commits(), "committed");
     kept.count(rt)
@@ -188,9 +188,17 @@ fn after_recovery(rt: &impl Abort, alloc: Global, grace: u64) -> usize {
 #[test]
 fn what_a_recovery_ends_is_noted(rt: HostRuntime) {
     let count = after_recovery(&rt, rt.alloc(), 30_000);
-    claim(&rt, count == BODIES.len() + 1, "the game of nobody");
+    claim(
+        &rt,
+        count == bodies().len().wrapping_add(1),
+        "the game of nobody",
+    );
     let count = after_recovery(&rt, rt.alloc(), 0);
-    claim(&rt, count == BODIES.len() + 2, "the game of the key");
+    claim(
+        &rt,
+        count == bodies().len().wrapping_add(2),
+        "the game of the key",
+    );
 }
 
 // After a failed commit nothing is noted or written any more.
