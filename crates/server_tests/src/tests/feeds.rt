@@ -27,6 +27,7 @@ fn each_loop_shows_a_beginning_of_each_game_and_then_all_of_it(rt: HostRuntime) 
         longest = longest.max(scene.longest);
         claim(&rt, scene.tells_all(), "all is told");
         claim(&rt, scene.shows_all(), "all is shown");
+        drop(scene);
     }
     claim(&rt, late > 0, "some loops were late");
     claim(&rt, longest == 12, "some games were full");
@@ -47,4 +48,5 @@ fn what_a_full_ring_does_not_take_is_told_later(rt: HostRuntime) {
     claim(&rt, !scene.shows_all(), "not all is shown yet");
     claim(&rt, scene.tells_all(), "the rest is told");
     claim(&rt, scene.shows_all(), "all is shown");
+    drop(scene);
 }

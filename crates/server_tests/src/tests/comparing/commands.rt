@@ -14,23 +14,28 @@ use std::process::Abort;
 /// The names of boards: more than there may be boards.
 static NAMES: [&str; 8] = ["b0", "b1", "b2", "b3", "b4", "b5", "b6", "b7"];
 
-/// A cycle of moves.
-static MOVES: [&str; 4] = ["g1f3", "g8f6", "f3g1", "f6g8"];
+/// A cycle of moves. They, the endings and the places are what stands behind the name of a board.
+static MOVES: [&str; 4] = [
+    "\",\"move\":\"g1f3\"}",
+    "\",\"move\":\"g8f6\"}",
+    "\",\"move\":\"f3g1\"}",
+    "\",\"move\":\"f6g8\"}",
+];
 
 static ENDINGS: [&str; 4] = [
-    "\"how\":\"agreed\"",
-    "\"how\":\"resign\",\"side\":\"black\"",
-    "\"how\":\"fifty\",\"side\":\"white\"",
-    "\"how\":\"threefold\",\"side\":\"white\"",
+    "\",\"how\":\"agreed\"}",
+    "\",\"how\":\"resign\",\"side\":\"black\"}",
+    "\",\"how\":\"fifty\",\"side\":\"white\"}",
+    "\",\"how\":\"threefold\",\"side\":\"white\"}",
 ];
 
 static FROM: [&str; 6] = [
-    "",
-    ",\"from\":0",
-    ",\"from\":1",
-    ",\"from\":2",
-    ",\"from\":4",
-    ",\"from\":7",
+    "\",\"spectator\":1}",
+    "\",\"spectator\":1,\"from\":0}",
+    "\",\"spectator\":1,\"from\":1}",
+    "\",\"spectator\":1,\"from\":2}",
+    "\",\"spectator\":1,\"from\":4}",
+    "\",\"spectator\":1,\"from\":7}",
 ];
 
 /// What is no command, or none that a connection may make.
@@ -59,8 +64,8 @@ static OTHER_FRAMES: [Frame; 4] = [
     (TEXT, &TOO_LONG),
 ];
 
-/// The pieces of a text.
-type Pieces = [&'static str; 5];
+/// The pieces of a text: what stands before the name of a board, the name, and what stands behind it.
+type Pieces = [&'static str; 3];
 
 fn names() -> &'static [&'static str] {
     &NAMES
@@ -102,22 +107,20 @@ fn is_live(hall: &Hall, name: &str) -> bool {
 
 /// What a board that is opened starts from: one time in eight from what there is not.
 fn start(dice: &mut Dice) -> &'static str {
-    if dice.below(8) == 7 { "960" } else { "518" }
+    if dice.below(8) == 7 {
+        "\",\"start\":960}"
+    } else {
+        "\",\"start\":518}"
+    }
 }
 
 /// A follow of this board. Of one whose game goes on it would not end by itself: then it is a command that nobody may make.
 fn follow(dice: &mut Dice, hall: &Hall, name: &'static str) -> Pieces {
     let from = dice.any(places());
     if is_live(hall, name) {
-        return ["{\"cmd\":\"take\",\"spectator\":1}", "", "", "", ""];
+        return ["{\"cmd\":\"take\",\"spectator\":1}", "", ""];
     }
-    [
-        "{\"cmd\":\"follow\",\"board\":\"",
-        name,
-        "\",\"spectator\":1",
-        from,
-        "}",
-    ]
+    ["{\"cmd\":\"follow\",\"board\":\"", name, from]
 }
 
 /// Somebody who speaks, mostly of one board: an operator, who opens it first, or a guest, who mostly asks to follow.
@@ -175,32 +178,17 @@ impl Speaker {
 fn pieces(dice: &mut Dice, hall: &Hall, speaker: &mut Speaker) -> Pieces {
     let name = speaker.name(dice);
     match speaker.kind(dice) {
-        OPENS..=5 => {
-            let start = start(dice);
-            [
-                "{\"cmd\":\"open\",\"board\":\"",
-                name,
-                "\",\"start\":",
-                start,
-                "}",
-            ]
-        }
+        OPENS..=5 => ["{\"cmd\":\"open\",\"board\":\"", name, start(dice)],
         6..=16 => {
             let played = speaker.played(dice);
-            [
-                "{\"cmd\":\"submit\",\"board\":\"",
-                name,
-                "\",\"move\":\"",
-                played,
-                "\"}",
-            ]
+            ["{\"cmd\":\"submit\",\"board\":\"", name, played]
         }
         17..=18 => {
             let how = dice.any(endings());
-            ["{\"cmd\":\"end\",\"board\":\"", name, "\",", how, "}"]
+            ["{\"cmd\":\"end\",\"board\":\"", name, how]
         }
         FOLLOWS..=20 => follow(dice, hall, name),
-        _ => [dice.any(others()), "", "", "", ""],
+        _ => [dice.any(others()), "", ""],
     }
 }
 

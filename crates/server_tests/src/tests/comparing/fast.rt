@@ -1,7 +1,7 @@
 //! A connection that a hall answers from bytes, as the program's server has them, without its loop. What it follows is pushed at once.
 
 use crate::tests::claims::claim;
-use crate::tests::sessions::frames::{REQUEST, add_lines, behind_head};
+use crate::tests::sessions::frames::{REQUEST, behind_head, lines};
 use live_board::Follower;
 use relay_core::Taken;
 use relay_hall::{Hall, Handed};
@@ -75,8 +75,6 @@ pub struct Fast {
     /// What it was sent once it followed.
     pushed: Vec<u8>,
     end: Option<SessionEnd>,
-    /// Once it has gone: the lines that it was sent.
-    told: Vec<u8>,
 }
 
 /// A connection that has sent its request.
@@ -87,7 +85,6 @@ pub fn shaken(rt: &impl Abort, alloc: Global, number: u32) -> Fast {
         sent: Vec::new(alloc),
         pushed: Vec::new(alloc),
         end: None,
-        told: Vec::new(alloc),
     };
     fast.feeds(rt, REQUEST);
     fast
@@ -159,23 +156,15 @@ impl Fast {
         self.end = Some(end);
     }
 
-    /// It goes.
-    pub fn goes(&mut self, rt: &impl Abort, hall: &mut Hall) {
+    /// It goes. Returns how its session ended, and the lines that it was sent.
+    pub fn goes(self, rt: &impl Abort, hall: &mut Hall) -> (SessionEnd, Vec<u8>) {
         hall.leave(self.connection.owner());
         let sent = behind_head(self.sent.as_slice());
-        let added = add_lines(self.alloc, &mut self.told, sent);
-        added.expect(rt, "memory");
+        let mut told = lines(self.alloc, sent).expect(rt, "memory");
         let pushed = self.pushed.as_slice();
-        self.told.extend_from_slice(pushed).expect(rt, "memory");
-    }
-
-    /// Once it has gone: how its session ended.
-    pub fn end(&self) -> SessionEnd {
-        self.end.unwrap_or(SessionEnd::Failed)
-    }
-
-    /// Once it has gone: the lines that it was sent.
-    pub fn told(&self) -> &[u8] {
-        self.told.as_slice()
+        told.extend_from_slice(pushed).expect(rt, "memory");
+        let end = self.end.unwrap_or(SessionEnd::Failed);
+        drop(self);
+        (end, told)
     }
 }

@@ -54,12 +54,6 @@ impl Side {
         bytes
     }
 
-    /// A connection goes from the server, and what it was told is noted.
-    fn is_left(&mut self, rt: &impl Abort, fast: &mut Fast) {
-        fast.goes(rt, &mut self.hall);
-        self.seen.note(fast.told());
-    }
-
     /// A whole session of somebody, through both.
     fn somebody<R: Wait + Abort>(&mut self, rt: &R, registry: &Registry) {
         self.numbers = self.numbers.wrapping_add(1);
@@ -67,11 +61,13 @@ impl Side {
         let bytes = self.all_said(rt);
         let mut fast = shaken(rt, self.alloc, number);
         fast.comes(rt, &mut self.hall, bytes.as_slice());
-        self.is_left(rt, &mut fast);
+        let (end, told) = fast.goes(rt, &mut self.hall);
+        self.seen.note(told.as_slice());
         let (alloc, peer) = (self.alloc, Peer::new(bytes.as_slice()));
-        let wanted = (fast.end(), fast.told());
+        let wanted = (end, told.as_slice());
         let is_same = is_told(rt, alloc, registry, number, peer, &OpenGate, wanted);
         claim(rt, is_same, "somebody is told the same by both");
+        drop((bytes, told));
     }
 
     /// Up to two of them.
@@ -149,10 +145,12 @@ fn operates<R: Wait + Abort>(rt: &R, registry: &Registry, side: &mut Side, numbe
         left: MESSAGES,
         speaker,
     };
-    let (end, told) = talked(rt, alloc, registry, number, operator, &OpenGate);
-    side.is_left(rt, &mut fast);
-    let is_same = end == fast.end() && told.as_slice() == fast.told();
+    let plain = talked(rt, alloc, registry, number, operator, &OpenGate);
+    let fast = fast.goes(rt, &mut side.hall);
+    side.seen.note(fast.1.as_slice());
+    let is_same = plain.0 == fast.0 && plain.1.as_slice() == fast.1.as_slice();
     claim(rt, is_same, "an operator is told the same by both");
+    drop((plain, fast));
 }
 
 /// A server with room for six boards of four plies, whose followers may be three moves behind.
@@ -171,6 +169,7 @@ fn run<R: Wait + Abort>(rt: &R, alloc: Global, seed: u32, seen: &mut Seen) {
         operates(rt, &registry, &mut side, number);
     }
     *seen = side.seen;
+    drop((registry, side));
 }
 
 #[test]

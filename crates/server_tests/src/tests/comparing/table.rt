@@ -17,8 +17,8 @@ fn talks<R: Wait + Abort>(rt: &R, alloc: Global, hall: &mut Hall, row: &Row) -> 
     let until = bytes.len().saturating_sub(cut);
     let mut fast = shaken(rt, alloc, 1);
     fast.comes(rt, hall, front(&bytes, until));
-    fast.goes(rt, hall);
-    fast.end() == wanted && fast.told() == told
+    let (end, lines) = fast.goes(rt, hall);
+    end == wanted && lines.as_slice() == told
 }
 
 #[test]
@@ -28,4 +28,5 @@ fn each_row_is_the_same_through_the_connections_of_the_program(rt: HostRuntime) 
     for (at, row) in rows().iter().enumerate() {
         claim_at(&rt, talks(&rt, rt.alloc(), &mut hall, row), "row", at);
     }
+    drop(hall);
 }

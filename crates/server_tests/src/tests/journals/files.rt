@@ -92,24 +92,15 @@ fn each_front_is_read(rt: HostRuntime) {
     }
 }
 
-/// Which line says no entry, if the body of this index is another's.
-fn unread(rt: &impl Abort, alloc: Global, at: usize) -> Option<usize> {
-    let mut bodies = BODIES;
-    if at < bodies.len() {
-        bodies[at] = b"- {\"cmd\":\"boards\"}";
-    }
-    let file = file_of(rt, alloc, FIRST_BODY, &bodies);
-    match read(alloc, &file) {
-        Err(Unread::NoEntry(number)) => Some(number),
-        _ => None,
-    }
-}
-
 // A line that says no entry is found by its number.
 #[test]
 fn a_line_without_an_entry_is_found(rt: HostRuntime) {
+    let alloc = rt.alloc();
     for at in 0..BODIES.len() {
-        let found = unread(&rt, rt.alloc(), at);
-        claim_at(&rt, found == Some(at), "no entry at", at);
+        let mut bodies = BODIES;
+        bodies[at] = b"- {\"cmd\":\"boards\"}";
+        let file = file_of(&rt, alloc, FIRST_BODY, &bodies);
+        let found = matches!(read(alloc, &file), Err(Unread::NoEntry(number)) if number == at);
+        claim_at(&rt, found, "no entry at", at);
     }
 }

@@ -17,7 +17,7 @@ pub const NOW: u64 = 5_000;
 pub struct Kept {
     alloc: Global,
     pub hall: Hall,
-    scribe: Scribe<Memory>,
+    pub scribe: Scribe<Memory>,
 }
 
 impl Kept {
@@ -29,14 +29,12 @@ impl Kept {
         entries: &[Entry],
         journal: Journal<Memory>,
     ) -> Result<Kept, Unfit> {
-        match recover(alloc, limits, grace, NOW, entries, journal) {
-            Ok((hall, scribe)) => Ok(Kept {
-                alloc,
-                hall,
-                scribe,
-            }),
-            Err(unfit) => Err(unfit),
-        }
+        let (hall, scribe) = recover(alloc, limits, grace, NOW, entries, journal)?;
+        Ok(Kept {
+            alloc,
+            hall,
+            scribe,
+        })
     }
 
     /// The hall hears a step.
@@ -54,27 +52,21 @@ impl Kept {
         self.scribe.commit().is_ok()
     }
 
-    /// Whether all that was noted is committed.
-    pub fn is_settled(&self) -> bool {
-        self.scribe.is_settled()
-    }
-
-    pub fn has_failed(&self) -> bool {
-        self.scribe.has_failed()
-    }
-
     /// The hall, and the entries of the journal.
     pub fn into_entries(self, rt: &impl Abort) -> (Hall, Vec<Entry>) {
         // A fault of the kit: it lays out an `Entry` in a `Vec` only if the body names the key inside it.
         let _key: Option<Key> = None;
         let storage = self.scribe.into_journal().into_storage();
         let entries = read_entries(self.alloc, &storage.bytes).expect(rt, "entries");
+        drop(storage);
         (self.hall, entries)
     }
 
     /// How many entries the journal has.
     pub fn count(self, rt: &impl Abort) -> usize {
-        let (_, entries) = self.into_entries(rt);
-        entries.len()
+        let (hall, entries) = self.into_entries(rt);
+        let count = entries.len();
+        drop((hall, entries));
+        count
     }
 }

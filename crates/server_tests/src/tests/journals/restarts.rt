@@ -44,7 +44,9 @@ fn restarted(
     let limits = Limits::new(3, 4, 4, plies).expect(rt, "limits");
     let journal = journal_of(rt, alloc, bodies);
     let entries = entries(rt, alloc, bodies);
-    Kept::new(alloc, limits, grace, &entries, journal)
+    let kept = Kept::new(alloc, limits, grace, &entries, journal);
+    drop(entries);
+    kept
 }
 
 /// The same, of bodies that fit.
@@ -56,7 +58,10 @@ pub fn fitting(rt: &impl Abort, alloc: Global, bodies: &[&[u8]], grace: u64) -> 
 fn refused(rt: &impl Abort, alloc: Global, bodies: &[&[u8]], plies: u16) -> Option<usize> {
     match restarted(rt, alloc, bodies, plies, 30_000) {
         Err(Unfit::Refused(at)) => Some(at),
-        _ => None,
+        other => {
+            drop(other);
+            None
+        }
     }
 }
 
@@ -96,6 +101,7 @@ fn boards_of_a_key_wait(rt: HostRuntime) {
     claim(&rt, is_so, "the game that was over");
     claim(&rt, waits_until(&rt, hall, NOW + 30_000), "the grace");
     claim_grace(&rt, hall, NOW + 30_000);
+    drop(kept);
 }
 
 // Without a grace nobody can come back, and all games are ended.
@@ -105,13 +111,16 @@ fn without_a_grace_all_games_are_ended(rt: HostRuntime) {
     let is_so = is_board(&rt, &kept.hall, 0, 3, Some(Outcome::Abandoned));
     claim(&rt, is_so, "the game of the key");
     claim(&rt, kept.hall.next_due().is_none(), "nothing waits");
+    drop(kept);
 }
 
 /// How many boards the hall of the first so many bodies has.
 fn boards_of(rt: &impl Abort, alloc: Global, count: usize) -> usize {
     let front = bodies().get(..count).unwrap_or(&[]);
     let kept = fitting(rt, alloc, front, 30_000);
-    kept.hall.len()
+    let count = kept.hall.len();
+    drop(kept);
+    count
 }
 
 // Each front of the entries is a hall, whose boards are those that were opened.

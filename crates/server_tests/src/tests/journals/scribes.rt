@@ -136,6 +136,7 @@ fn claim_made_again(rt: &impl Abort, alloc: Global, kept: Kept) {
     for at in 0..4 {
         claim_at(rt, is_same(rt, &hall, &again.hall, at), "the board", at);
     }
+    drop((hall, entries, again));
 }
 
 // Each event makes the entry that it is, and the boards are made again of the entries.
@@ -144,9 +145,9 @@ fn what_is_written_is_made_again(rt: HostRuntime) {
     let mut kept = started(&rt, rt.alloc(), usize::MAX);
     for said in all_said() {
         say_noted(&rt, &mut kept, said);
-        claim(&rt, !kept.is_settled(), "not settled");
+        claim(&rt, !kept.scribe.is_settled(), "not settled");
         claim(&rt, kept.commits(), "committed");
-        claim(&rt, kept.is_settled(), "settled");
+        claim(&rt, kept.scribe.is_settled(), "settled");
     }
     claim_made_again(&rt, rt.alloc(), kept);
 }
@@ -160,7 +161,7 @@ fn nothing_is_noted_twice(rt: HostRuntime) {
     }
     claim(&rt, kept.commits(), "committed");
     claim(&rt, kept.notes(), "noted again");
-    claim(&rt, kept.is_settled(), "nothing was noted");
+    claim(&rt, kept.scribe.is_settled(), "nothing was noted");
     claim_all(&rt, kept);
 }
 
@@ -179,7 +180,7 @@ fn many_events_are_noted_at_once(rt: HostRuntime) {
 /// How many entries there are once a recovery with this grace is committed.
 fn after_recovery(rt: &impl Abort, alloc: Global, grace: u64) -> usize {
     let mut kept = fitting(rt, alloc, bodies(), grace);
-    claim(rt, !kept.is_settled(), "ends were noted");
+    claim(rt, !kept.scribe.is_settled(), "ends were noted");
     claim(rt, kept.commits(), "committed");
     kept.count(rt)
 }
@@ -188,17 +189,9 @@ fn after_recovery(rt: &impl Abort, alloc: Global, grace: u64) -> usize {
 #[test]
 fn what_a_recovery_ends_is_noted(rt: HostRuntime) {
     let count = after_recovery(&rt, rt.alloc(), 30_000);
-    claim(
-        &rt,
-        count == bodies().len().wrapping_add(1),
-        "the game of nobody",
-    );
+    claim(&rt, count == bodies().len() + 1, "the game of nobody");
     let count = after_recovery(&rt, rt.alloc(), 0);
-    claim(
-        &rt,
-        count == bodies().len().wrapping_add(2),
-        "the game of the key",
-    );
+    claim(&rt, count == bodies().len() + 2, "the game of the key");
 }
 
 // After a failed commit nothing is noted or written any more.
@@ -208,7 +201,7 @@ fn a_failed_scribe_stays_failed(rt: HostRuntime) {
     claim(&rt, kept.commits(), "the first line");
     say_noted(&rt, &mut kept, &(0, "mate", "open"));
     claim(&rt, !kept.commits(), "a write that fails");
-    let has_failed = kept.has_failed() && !kept.is_settled();
+    let has_failed = kept.scribe.has_failed() && !kept.scribe.is_settled();
     claim(&rt, has_failed, "it has failed");
     claim(&rt, !kept.notes(), "nothing is noted");
     claim(&rt, !kept.commits(), "nothing is written");
@@ -225,5 +218,6 @@ fn a_short_key_is_not_noted(rt: HostRuntime) {
     };
     kept.hears(&owner, &step_of(&rt, "short", "open"));
     claim(&rt, !kept.notes(), "not noted");
-    claim(&rt, kept.has_failed(), "it has failed");
+    claim(&rt, kept.scribe.has_failed(), "it has failed");
+    drop(kept);
 }

@@ -93,11 +93,8 @@ fn looked_at(text: &[u8]) -> (usize, bool) {
 // The file is what another program makes of its lines.
 #[test]
 fn the_file_is_as_another_program_makes_it(rt: HostRuntime) {
-    claim(
-        &rt,
-        file(rt.alloc()).as_slice() == BY_ANOTHER_PROGRAM,
-        "the file",
-    );
+    let is_same = file(rt.alloc()).as_slice() == BY_ANOTHER_PROGRAM;
+    claim(&rt, is_same, "the file");
 }
 
 // Each byte that is changed ends what is read at its line. Unless it is in the last write, or the line feed before that, this is taken for

@@ -26,12 +26,8 @@ fn claim_left(rt: &impl Abort, left: &[u8], lines: usize, is_damage: bool, at: u
     claim_at(rt, part.lines == lines, "lines at", at);
     let end = end_of(lines);
     claim_at(rt, part.bytes == end, "bytes at", at);
-    claim_at(
-        rt,
-        later_write(behind(left, end)).is_some() == is_damage,
-        "damage at",
-        at,
-    );
+    let is_damaged = later_write(behind(left, end)).is_some();
+    claim_at(rt, is_damaged == is_damage, "damage at", at);
 }
 
 // Each front of the file is read as its whole lines, whatever stands behind it.

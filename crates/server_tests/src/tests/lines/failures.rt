@@ -112,20 +112,12 @@ fn room_may_end_at_each_byte(rt: HostRuntime) {
 fn a_line_feed_is_not_noted(rt: HostRuntime) {
     let alloc = rt.alloc();
     let mut journal = Journal::behind(alloc, ample(alloc, usize::MAX), NO_SEAL);
-    claim(
-        &rt,
-        journal.note(b"o\nne") == Err(NoteError::HasLineFeed),
-        "a line feed",
-    );
-    claim(
-        &rt,
-        journal.note(b"one").is_ok() && journal.commit().is_ok(),
-        "the next",
-    );
+    let has_line_feed = journal.note(b"o\nne") == Err(NoteError::HasLineFeed);
+    claim(&rt, has_line_feed, "a line feed");
+    let is_noted = journal.note(b"one").is_ok() && journal.commit().is_ok();
+    claim(&rt, is_noted, "the next");
     let storage = journal.into_storage();
-    claim(
-        &rt,
-        storage.bytes.as_slice() == front(&file(alloc), ENDS[0]),
-        "the first line",
-    );
+    let is_first = storage.bytes.as_slice() == front(&file(alloc), ENDS[0]);
+    claim(&rt, is_first, "the first line");
+    drop(storage);
 }

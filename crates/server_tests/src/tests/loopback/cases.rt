@@ -4,7 +4,6 @@ use crate::tests::claims::claim;
 use crate::tests::loopback::peer::Client;
 use crate::tests::loopback::served::serving;
 use relay_server::{Gate, OpenGate};
-use std::alloc::Global;
 use std::process::Abort;
 use std::sync::Arc;
 use std::sync::atomic::{AtomicBool, AtomicU64, Ordering};
@@ -72,14 +71,9 @@ fn plays(rt: &impl Abort, owner: &mut Client, count: usize) {
     }
 }
 
-/// A gate that a server shares with its test.
-fn shared<G: Drop>(rt: &impl Abort, alloc: Global, gate: G) -> Arc<G, Global> {
-    Arc::new(alloc, gate).expect(rt, "memory")
-}
-
 #[test]
 fn a_follower_gets_the_move_and_the_end_and_a_stranger_is_refused(rt: HostRuntime) {
-    let gate = shared(&rt, rt.alloc(), OpenGate);
+    let gate = Arc::new(rt.alloc(), OpenGate).expect(&rt, "memory");
     let server = serving(&rt, rt.alloc(), &gate, 3);
     let mut owner = server.client(&rt);
     owner.asks(&rt, OPEN_B1, OPENED);
@@ -90,11 +84,8 @@ fn a_follower_gets_the_move_and_the_end_and_a_stranger_is_refused(rt: HostRuntim
     owner.asks(&rt, FOLLOW_B1, WRONG_MODE);
     let mut stranger = server.client(&rt);
     stranger.asks(&rt, BLACK_MOVES, NOT_YOURS);
-    stranger.asks(
-        &rt,
-        b"{\"cmd\":\"submit\",\"board\":\"b9\",\"move\":\"e7e5\"}",
-        NO_BOARD,
-    );
+    let on_b9 = b"{\"cmd\":\"submit\",\"board\":\"b9\",\"move\":\"e7e5\"}";
+    stranger.asks(&rt, on_b9, NO_BOARD);
     stranger.asks(&rt, b"{\"cmd\":\"take\",\"spectator\":1}", WRONG_MODE);
     owner.asks(&rt, END_AGREED, ENDED);
     follower.hears(&rt, OVER);
@@ -102,11 +93,12 @@ fn a_follower_gets_the_move_and_the_end_and_a_stranger_is_refused(rt: HostRuntim
     stranger.closes(&rt);
     owner.closes(&rt);
     server.ends(&rt, 3);
+    drop((gate, follower));
 }
 
 #[test]
 fn a_follower_gets_what_was_played_before_and_the_end_of_a_board_that_is_left(rt: HostRuntime) {
-    let gate = shared(&rt, rt.alloc(), OpenGate);
+    let gate = Arc::new(rt.alloc(), OpenGate).expect(&rt, "memory");
     let server = serving(&rt, rt.alloc(), &gate, 2);
     let mut owner = server.client(&rt);
     owner.asks(&rt, OPEN_B1, OPENED);
@@ -119,6 +111,7 @@ fn a_follower_gets_what_was_played_before_and_the_end_of_a_board_that_is_left(rt
     follower.hears(&rt, ABANDONED);
     follower.is_closed(&rt, 1000);
     server.ends(&rt, 2);
+    drop((gate, follower));
 }
 
 /// How often a gate looks whether it may be passed.
@@ -186,7 +179,7 @@ impl Gate for Holding {
 /// The first connection is answered once the second was.
 #[test]
 fn two_at_once(rt: HostRuntime) {
-    let gate = shared(&rt, rt.alloc(), Holding::new((1, 2), 0));
+    let gate = Arc::new(rt.alloc(), Holding::new((1, 2), 0)).expect(&rt, "memory");
     let server = serving(&rt, rt.alloc(), &gate, 2);
     let mut first = server.client(&rt);
     let mut second = server.client(&rt);
@@ -197,12 +190,13 @@ fn two_at_once(rt: HostRuntime) {
     second.closes(&rt);
     server.ends(&rt, 2);
     claim(&rt, gate.was_in_time(), "each was let through in time");
+    drop(gate);
 }
 
 /// The follower is pushed nothing before the third move, which finds its queue full.
 #[test]
 fn a_follower_whose_queue_is_full_is_cut_off(rt: HostRuntime) {
-    let gate = shared(&rt, rt.alloc(), Holding::new((0, 0), 2));
+    let gate = Arc::new(rt.alloc(), Holding::new((0, 0), 2)).expect(&rt, "memory");
     let server = serving(&rt, rt.alloc(), &gate, 2);
     let mut owner = server.client(&rt);
     owner.asks(&rt, OPEN_B1, OPENED);
@@ -217,4 +211,5 @@ fn a_follower_whose_queue_is_full_is_cut_off(rt: HostRuntime) {
     owner.closes(&rt);
     server.ends(&rt, 2);
     claim(&rt, gate.was_in_time(), "each was let through in time");
+    drop((gate, follower));
 }

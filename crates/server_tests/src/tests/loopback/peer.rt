@@ -1,7 +1,7 @@
 //! A client, which writes and reads WebSocket frames byte by byte.
 
 use crate::tests::claims::claim;
-use crate::tests::sessions::frames::{CLOSE, NORMAL, REQUEST, TEXT, frame};
+use crate::tests::sessions::frames::{CLOSE, NORMAL, REQUEST, TEXT, add_frame};
 use std::alloc::Global;
 use std::io;
 use std::io::{Read, Write};
@@ -55,7 +55,8 @@ impl Client {
 
     /// Sends a frame.
     fn sends(&mut self, rt: &impl Abort, first: u8, payload: &[u8]) {
-        let bytes = frame(self.alloc, first, payload).expect(rt, "memory");
+        let mut bytes = Vec::new(self.alloc);
+        add_frame(&mut bytes, first, payload).expect(rt, "memory");
         self.stream.write_all(bytes.as_slice()).expect(rt, "sent");
     }
 

@@ -25,4 +25,5 @@ fn whoever_is_refused_memory_asks_again(rt: HostRuntime) {
             "no {word}"
         );
     }
+    drop((people, scene));
 }

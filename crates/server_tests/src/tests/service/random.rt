@@ -75,6 +75,7 @@ fn run_one(rt: &impl Abort, alloc: Global, grace: u64, seed: u32, seen: &mut See
     }
     claim(rt, scene.refused == 0, "no memory was refused");
     scene.notes(seen);
+    drop((people, scene));
 }
 
 /// All of these words have occurred, or none.

@@ -78,4 +78,5 @@ fn calls_that_are_interrupted_and_bytes_that_come_one_by_one_change_nothing(rt: 
     for (at, row) in rows().iter().enumerate() {
         claim_at(&rt, talks(&rt, rt.alloc(), &shared, row), "row", at);
     }
+    drop(shared);
 }

@@ -79,7 +79,9 @@ fn end_of_reading<R: Wait + Abort>(
 ) -> SessionEnd {
     let shared = registry(rt, alloc);
     let mut sent = Vec::new(alloc);
-    end_of_owner(rt, alloc, &shared, (until, failure), &mut sent)
+    let end = end_of_owner(rt, alloc, &shared, (until, failure), &mut sent);
+    drop((shared, sent));
+    end
 }
 
 /// How many bytes are read before a read fails or is the end, and how the session ends then: in the handshake, behind it, and in a frame.
@@ -113,15 +115,10 @@ fn a_read_that_fails_ends_the_handshake_or_the_session(rt: HostRuntime) {
 
 /// Whether a guest of board b1, once its owner's session is over, is told that the board is over or, if it was not opened, that there is
 /// none.
-fn is_told_of_b1<R: Wait + Abort>(
-    rt: &R,
-    alloc: Global,
-    registry: &Registry,
-    was_opened: bool,
-) -> bool {
+fn is_told_of_b1<R: Wait + Abort>(rt: &R, alloc: Global, shared: &Registry, opened: bool) -> bool {
     let bytes = input(alloc, &[(TEXT, FOLLOW_B1)]).expect(rt, "memory");
-    let (_, told) = talked(rt, alloc, registry, 2, Peer::new(&bytes), &OpenGate);
-    if was_opened {
+    let (_, told) = talked(rt, alloc, shared, 2, Peer::new(&bytes), &OpenGate);
+    if opened {
         told.as_slice().ends_with(ABANDONED)
     } else {
         told.as_slice() == NO_BOARD
@@ -164,7 +161,9 @@ fn fails_for_good<R: Wait + Abort>(
     };
     let end = end_of_owner(rt, alloc, &shared, (usize::MAX, Some(kind)), writer);
     let is_told = is_told_of_b1(rt, alloc, &shared, wanted == SessionEnd::Failed);
-    end == wanted && sent.len() == room && is_told
+    let is_last = sent.len() == room;
+    drop((shared, sent));
+    end == wanted && is_last && is_told
 }
 
 #[test]

@@ -40,13 +40,6 @@ pub fn add_frame(bytes: &mut Vec<u8>, first: u8, payload: &[u8]) -> Result<(), A
     bytes.extend_from_slice(payload)
 }
 
-/// A frame with a mask of zeros.
-pub fn frame(alloc: Global, first: u8, payload: &[u8]) -> Result<Vec<u8>, AllocError> {
-    let mut bytes = Vec::new(alloc);
-    add_frame(&mut bytes, first, payload)?;
-    Ok(bytes)
-}
-
 /// What a server sent behind the head of its response.
 pub fn behind_head(sent: &[u8]) -> &[u8] {
     for at in 0..sent.len() {
@@ -59,36 +52,26 @@ pub fn behind_head(sent: &[u8]) -> &[u8] {
 }
 
 /// Appends a word and a number.
-fn add_number(
-    alloc: Global,
-    lines: &mut Vec<u8>,
-    word: &str,
-    number: u16,
-) -> Result<(), AllocError> {
+fn add_number(alloc: Global, out: &mut Vec<u8>, word: &str, number: u16) -> Result<(), AllocError> {
     let text = format!(in alloc; "{word} {number}")?;
-    lines.extend_from_slice(text.as_bytes())
+    out.extend_from_slice(text.as_bytes())
 }
 
 /// Appends the line of a frame.
-fn add_line(
-    alloc: Global,
-    lines: &mut Vec<u8>,
-    first: u8,
-    payload: &[u8],
-) -> Result<(), AllocError> {
+fn add_line(alloc: Global, out: &mut Vec<u8>, first: u8, payload: &[u8]) -> Result<(), AllocError> {
     match first {
-        TEXT => lines.extend_from_slice(payload)?,
+        TEXT => out.extend_from_slice(payload)?,
         CLOSE if payload.len() >= 2 => {
             let code = u16::from(payload[0]) * 256 + u16::from(payload[1]);
-            add_number(alloc, lines, "close", code)?;
+            add_number(alloc, out, "close", code)?;
         }
-        other => add_number(alloc, lines, "opcode", u16::from(other))?,
+        other => add_number(alloc, out, "opcode", u16::from(other))?,
     }
-    lines.extend_from_slice(b"\n")
+    out.extend_from_slice(b"\n")
 }
 
 /// Appends the lines of what a server sent.
-pub fn add_lines(alloc: Global, lines: &mut Vec<u8>, sent: &[u8]) -> Result<(), AllocError> {
+fn add_lines(alloc: Global, lines: &mut Vec<u8>, sent: &[u8]) -> Result<(), AllocError> {
     let mut at = 0;
     for _ in 0..sent.len() {
         if at >= sent.len() || sent.len() - at < 2 {

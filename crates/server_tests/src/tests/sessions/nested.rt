@@ -27,16 +27,8 @@ fn is_answered<R: Wait + Abort, G: Gate>(
     answer: &[u8],
 ) -> bool {
     let bytes = input(alloc, FRAMES).expect(rt, "memory");
-    let wanted = (SessionEnd::Closed, answer);
-    is_told(
-        rt,
-        alloc,
-        registry,
-        connection,
-        Peer::new(&bytes),
-        gate,
-        wanted,
-    )
+    let (peer, wanted) = (Peer::new(&bytes), (SessionEnd::Closed, answer));
+    is_told(rt, alloc, registry, connection, peer, gate, wanted)
 }
 
 /// A gate at which another connection opens b1 in the meantime. It notes whether that one succeeded.
@@ -70,4 +62,5 @@ fn a_gate_is_told_before_the_first_command_is_carried_out(rt: HostRuntime) {
     let exists = is_answered(&rt, alloc, &shared, 1, &gate, EXISTS);
     claim(&rt, exists, "the board exists by then");
     claim(&rt, gate.was_opened.get(), "another has opened it");
+    drop(shared);
 }

@@ -95,13 +95,8 @@ fn sent() -> [&'static [Frame]; 3] {
 /// Whether the owner's session asks for what it is to.
 fn asks_for_an_owner<R: Wait + Abort>(rt: &R, alloc: Global, registry: &Registry) -> bool {
     let bytes = input(alloc, sent()[0]).expect(rt, "memory");
-    let rest = behind(&bytes, SECOND);
-    let pieces = [
-        REQUEST,
-        front(&bytes, SECOND),
-        front(rest, THIRD),
-        behind(rest, THIRD),
-    ];
+    let (second, rest) = (front(&bytes, SECOND), behind(&bytes, SECOND));
+    let pieces = [REQUEST, second, front(rest, THIRD), behind(rest, THIRD)];
     let told = (SessionEnd::Closed, of_an_owner());
     asks(rt, alloc, registry, &pieces, told)
 }
@@ -119,7 +114,9 @@ fn asks_until_a_breach<R: Wait + Abort>(rt: &R, alloc: Global, broken: &[u8]) ->
     let mut bytes = input(alloc, sent()[2]).expect(rt, "memory");
     bytes.extend_from_slice(broken).expect(rt, "memory");
     let told = (SessionEnd::Failed, of_a_breach());
-    asks(rt, alloc, &shared, &[REQUEST, bytes.as_slice()], told)
+    let is_asked = asks(rt, alloc, &shared, &[REQUEST, bytes.as_slice()], told);
+    drop((shared, bytes));
+    is_asked
 }
 
 #[test]
@@ -129,6 +126,7 @@ fn each_call_comes_in_its_turn(rt: HostRuntime) {
     claim(&rt, is_asked, "for an owner");
     let is_asked = asks_for_a_follower(&rt, rt.alloc(), &shared);
     claim(&rt, is_asked, "for a follower");
+    drop(shared);
 }
 
 #[test]
@@ -187,4 +185,5 @@ fn behind_a_million_messages_the_session_closes(rt: HostRuntime) {
     claim(&rt, end == SessionEnd::Closed, "the end");
     let is_told = told.as_slice() == b"close 1000\n".as_slice();
     claim(&rt, is_told, "what is told");
+    drop((shared, pongs, told));
 }

@@ -58,7 +58,9 @@ fn talk<R: Wait + Abort>(
         writer: &mut sent,
     };
     let end = session(rt, alloc, registry, connection, stream, &OpenGate);
-    (end, lines_of(rt, alloc, behind_head(sent.as_slice())))
+    let told = lines_of(rt, alloc, behind_head(sent.as_slice()));
+    drop((bytes, sent));
+    (end, told)
 }
 
 fn owned() -> &'static [u8] {
@@ -99,21 +101,12 @@ fn guests_told<R: Wait + Abort>(rt: &R, alloc: Global, registry: &Registry, want
     count
 }
 
-/// Whether the session of an owner is as if no memory had been refused.
-fn is_owned<R: Wait + Abort>(rt: &R, alloc: Global, registry: &Registry) -> bool {
-    let (end, told) = talk(rt, alloc, registry, 1, owner_frames());
-    end == SessionEnd::Closed && told.as_slice() == owned()
-}
-
-/// Whether an owner may leave that guests are told this: of the board with its move, of the board alone, or of no board.
-fn may_be_left(told: &[u8]) -> bool {
-    told == followed() || told == no_move() || told == no_such_board()
-}
-
-/// What the guests find is what the owner left.
+/// What the guests find is what the owner left: the board with its move, the board alone, or no board.
 fn claim_left<R: Wait + Abort>(rt: &R, alloc: Global, registry: &Registry) {
     let (_, left) = talk(rt, alloc, registry, 9, guest_frames());
-    claim(rt, may_be_left(left.as_slice()), "what is left");
+    let told = left.as_slice();
+    let may_be_left = told == followed() || told == no_move() || told == no_such_board();
+    claim(rt, may_be_left, "what is left");
     let count = guests_told(rt, alloc, registry, left.as_slice());
     claim(rt, count == 3, "each guest is told the same");
 }
@@ -122,13 +115,15 @@ fn claim_left<R: Wait + Abort>(rt: &R, alloc: Global, registry: &Registry) {
 fn a_refusal_ends_the_boards_and_leaves_no_seat_taken(rt: HostRuntime) {
     let alloc = rt.alloc();
     let registry = new_registry(&rt, alloc);
-    if is_owned(&rt, alloc, &registry) {
+    let (end, told) = talk(&rt, alloc, &registry, 1, owner_frames());
+    if end == SessionEnd::Closed && told.as_slice() == owned() {
         // The one refusal may hit a guest, and then the next one finds the place free.
         let count = guests_told(&rt, alloc, &registry, followed());
         claim(&rt, count >= 2, "guests follow");
     } else {
         claim_left(&rt, alloc, &registry);
     }
+    drop((registry, told));
 }
 
 static OPENER: [Frame; 4] = [
@@ -172,4 +167,5 @@ fn a_name_that_stands_takes_no_memory(rt: HostRuntime) {
     // A session for which there was no memory ends after some of these.
     let may_be_told = may_be_told(told.as_slice(), end == SessionEnd::Closed);
     claim(&rt, may_be_told, "what is told");
+    drop((registry, told));
 }

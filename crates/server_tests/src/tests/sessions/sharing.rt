@@ -52,16 +52,8 @@ fn guest(rt: &impl Abort, alloc: Global, number: u32, board: u32) -> Vec<u8> {
 /// Whether an owner's session closes, with each command done.
 fn owns<R: Wait + Abort>(rt: &R, alloc: Global, registry: &Registry, number: u32) -> bool {
     let bytes = owner(rt, alloc, number);
-    let wanted = (SessionEnd::Closed, OWNED);
-    is_told(
-        rt,
-        alloc,
-        registry,
-        number,
-        Peer::new(&bytes),
-        &OpenGate,
-        wanted,
-    )
+    let (peer, wanted) = (Peer::new(&bytes), (SessionEnd::Closed, OWNED));
+    is_told(rt, alloc, registry, number, peer, &OpenGate, wanted)
 }
 
 const OWNED: &[u8] =
@@ -70,52 +62,23 @@ const OWNED: &[u8] =
 const FOLLOWED: &[u8] =
     b"{\"fen\":\"rnbqkbnr/pppppppp/8/8/8/8/PPPPPPPP/RNBQKBNR w HAha - 0 1\",\"joined\":0,\"reply\":\"following\"}\n{\"move\":\"e2e4\",\"place\":0,\"reply\":\"move\"}\n{\"outcome\":\"abandoned\",\"reply\":\"over\"}\nclose 1000\n";
 
-/// Whether a board of an owner is followed from its start to its end.
-fn is_followed<R: Wait + Abort>(
-    rt: &R,
-    alloc: Global,
-    registry: &Registry,
-    number: u32,
-    board: u32,
-) -> bool {
-    let bytes = guest(rt, alloc, number, board);
-    let wanted = (SessionEnd::Over, FOLLOWED);
-    is_told(
-        rt,
-        alloc,
-        registry,
-        100,
-        Peer::new(&bytes),
-        &OpenGate,
-        wanted,
-    )
-}
-
 /// Each board of an owner is followed from its start to its end.
 fn assert_followed<R: Wait + Abort>(rt: &R, alloc: Global, registry: &Registry, number: u32) {
     for board in 0..BOARDS {
-        let is_followed = is_followed(rt, alloc, registry, number, board);
-        claim_at(
-            rt,
-            is_followed,
-            "followed to its end: board",
-            board as usize,
-        );
+        let bytes = guest(rt, alloc, number, board);
+        let (peer, wanted) = (Peer::new(&bytes), (SessionEnd::Over, FOLLOWED));
+        let is_followed = is_told(rt, alloc, registry, 100, peer, &OpenGate, wanted);
+        claim_at(rt, is_followed, "followed: board", board as usize);
     }
 }
 
 /// A thread of this number, on which an owner's session closes.
-fn started<R>(
-    rt: &R,
-    alloc: Global,
-    shared: &Arc<Registry, Global>,
-    number: u32,
-) -> JoinHandle<bool>
+fn started<R>(rt: &R, alloc: Global, held: &Arc<Registry, Global>, number: u32) -> JoinHandle<bool>
 where
     R: Threads + Wait + Abort + Clone + Send + Drop + 'static,
 {
     let own = rt.clone().expect(rt, "a handle");
-    let of_thread = Arc::try_clone(shared).expect(rt, "few owners");
+    let of_thread = Arc::try_clone(held).expect(rt, "few owners");
     let started = spawn(rt, move || owns(&own, alloc, &of_thread, number));
     started.expect(rt, "a thread")
 }
@@ -135,4 +98,5 @@ fn threads_open_and_play_boards_of_one_registry(rt: HostRuntime) {
     for number in 0..THREADS {
         assert_followed(&rt, alloc, &shared, number);
     }
+    drop(shared);
 }
