@@ -3,18 +3,8 @@
 use crate::tests::claims::claim;
 use c960_game::{Limits, Refusal};
 use live_board::{Board, Follower};
-use std::alloc::{AllocError, Global};
+use std::alloc::Global;
 use std::process::Abort;
-
-/// What a call makes, which is made again if there was no memory for it.
-pub fn again<T, F: Fn() -> Result<T, AllocError>>(rt: &impl Abort, make: F) -> T
-    requires { F.IsAlwaysCallable make }
-{
-    match make() {
-        Ok(made) => made,
-        Err(AllocError) => make().expect(rt, "one refusal at the most"),
-    }
-}
 
 /// A new board of start 518, opened again if it was refused.
 pub fn open(rt: &impl Abort, alloc: Global, limits: Limits) -> Board {

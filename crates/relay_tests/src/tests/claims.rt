@@ -17,3 +17,8 @@ pub fn claim_of(rt: &impl Abort, holds: bool, what: &str, of: &str) {
 pub fn claim_at(rt: &impl Abort, holds: bool, what: &str, number: usize) {
     assert!(rt; holds, "{what} {number}");
 }
+
+/// Asserts that something holds of the row of this number of a case.
+pub fn claim_in(rt: &impl Abort, holds: bool, case: &str, of: &str, number: usize) {
+    assert!(rt; holds, "{case}, {of}, {number}");
+}

@@ -18,7 +18,10 @@ pub fn opened(rt: &impl Abort, alloc: Global, start: u16, limits: Limits) -> Boa
 
 /// Whether no board is opened, since there is no such start.
 pub fn is_bad_start(alloc: Global, start: u16, limits: Limits) -> bool {
-    matches!(Board::open(alloc, start, limits), Err(Refusal::BadStart))
+    let opened = Board::open(alloc, start, limits);
+    let is_bad = matches!(&opened, Err(Refusal::BadStart));
+    drop(opened);
+    is_bad
 }
 
 /// A new follower. It is not refused, for lack of memory either (`again::follow` asks once more then).

@@ -40,4 +40,5 @@ fn a_ring_behind_a_look_is_not_slept_through(rt: HostRuntime) {
     let is_cut = end == PushEnd::Cut;
     let no_memory = end == PushEnd::Failed(SendFault::OutOfMemory);
     claim(&rt, is_cut || no_memory, "how pushing ends");
+    drop(outlet);
 }

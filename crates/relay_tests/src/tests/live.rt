@@ -47,6 +47,7 @@ fn assert_leaves(rt: &impl Abort, mut board: Board, live: Live, taken: u16) {
     claim(rt, told == account(0, taken, 2, true), "its account");
     let told = leaves(follow(rt, &mut board, None));
     claim(rt, told == account(3, 0, 3, false), "its slot is vacant");
+    drop(board);
 }
 
 #[test]

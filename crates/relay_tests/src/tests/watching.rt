@@ -7,7 +7,6 @@ use c960_board::{Position, read_fen};
 use relay_watching::{SpectatorConnection, Tape};
 use std::alloc::Global;
 use std::process::Abort;
-use std::test::Fail;
 
 /// What one is sent that joins at the start: the greeting, the four moves, of which each has a frame of 42 bytes, the end, and the close.
 /// Then what one is sent that joins at place 1.
@@ -104,6 +103,7 @@ fn assert_sent(rt: &impl Abort, alloc: Global, most: usize) {
     write_all(rt, &mut second, &tape, most);
     assert_done(rt, &first, &tape);
     assert_done(rt, &second, &tape);
+    drop((first, second, tape));
 }
 
 #[test]
@@ -115,12 +115,12 @@ fn each_is_sent_the_frames_from_its_place_on(rt: HostRuntime) {
 
 /// Another frame may be written after the greeting and after each move, and nowhere else.
 #[test]
-fn other_frames_go_between_frames(rt: HostRuntime) -> Result<(), Fail> {
-    let alloc = rt.alloc();
-    let mut tape = Tape::new(alloc);
+fn other_frames_go_between_frames(rt: HostRuntime) {
+    let mut tape = Tape::new(rt.alloc());
     let start = Position::start(518).expect(&rt, "a start");
-    let mut spectator = tape.join(0, &start)?;
-    tape.push_all(&[move_of(&rt, "f2f3"), move_of(&rt, "e7e5")])?;
+    let mut spectator = tape.join(0, &start).expect(&rt, "memory");
+    let moves = [move_of(&rt, "f2f3"), move_of(&rt, "e7e5")];
+    tape.push_all(&moves).expect(&rt, "memory");
     for k in 0..183 {
         let is_between = spectator.is_between_frames(&tape);
         claim_at(&rt, is_between == (k == 99 || k == 141), "byte", k);
@@ -134,14 +134,14 @@ fn other_frames_go_between_frames(rt: HostRuntime) -> Result<(), Fail> {
         "behind the last frame",
     );
     claim(&rt, spectator.due(&tape).is_empty(), "nothing is due");
-    Ok(())
+    drop((spectator, tape));
 }
 
 #[test]
-fn a_long_greeting_has_its_length_in_two_bytes(rt: HostRuntime) -> Result<(), Fail> {
+fn a_long_greeting_has_its_length_in_two_bytes(rt: HostRuntime) {
     let tape = Tape::new(rt.alloc());
     let position = read_fen(crowded().0).expect(&rt, "a position");
-    let spectator = tape.join(0, &position)?;
+    let spectator = tape.join(0, &position).expect(&rt, "memory");
     claim(&rt, spectator.due(&tape) == crowded().1, "the greeting");
-    Ok(())
+    drop((spectator, tape));
 }

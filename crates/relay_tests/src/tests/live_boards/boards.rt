@@ -50,4 +50,5 @@ fn its_moves_and_positions_are_those_of_the_game(rt: HostRuntime) {
         claim(&rt, board.move_at(past).is_none(), "no move there");
     }
     claim(&rt, board.position_at(5).is_none(), "no position there");
+    drop(board);
 }

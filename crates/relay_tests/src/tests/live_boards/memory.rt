@@ -40,6 +40,7 @@ fn a_third_to_the_end(rt: &impl Abort, board: &mut Board) {
         takes(&mut three) == Taken::Over(Outcome::Agreed),
         "the third is told the end",
     );
+    drop(three);
 }
 
 #[test]
@@ -59,4 +60,5 @@ fn one_allocation_may_be_refused(rt: HostRuntime) {
         leaves(one) == account(0, 2, 2, false),
         "the first leaves",
     );
+    drop(board);
 }

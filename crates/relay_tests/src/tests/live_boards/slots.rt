@@ -52,6 +52,7 @@ fn assert_lower(rt: &impl Abort, alloc: Global, first: usize, second: usize) {
         let is_vacant = stage.ask(Ask::Word(slot as u64 + 2)) == Answer::Word(Some(0));
         claim_at(rt, is_vacant == (slot == first.max(second)), "slot", slot);
     }
+    drop(stage);
 }
 
 #[test]

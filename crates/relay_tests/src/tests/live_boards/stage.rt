@@ -5,7 +5,7 @@ use c960_board::Move;
 use c960_game::{Ending, Limits, Outcome, Refusal};
 use live_board::{Board, Follower};
 use relay_core::{Account, Taken};
-use std::alloc::{AllocError, Global};
+use std::alloc::Global;
 use std::process::Abort;
 
 /// What is asked of a board, or of one of its followers.
@@ -40,12 +40,12 @@ pub enum Answer {
 }
 
 /// Room for this many followers.
-fn vacant(alloc: Global, room: usize) -> Result<Vec<Option<Follower>>, AllocError> {
+fn vacant(rt: &impl Abort, alloc: Global, room: usize) -> Vec<Option<Follower>> {
     let mut followers = Vec::new(alloc);
     for _ in 0..room {
-        followers.push(None)?;
+        followers.push(None).expect(rt, "memory");
     }
-    Ok(followers)
+    followers
 }
 
 /// A board and its followers.
@@ -60,7 +60,7 @@ impl Stage {
     pub fn open(rt: &impl Abort, alloc: Global, limits: Limits, room: usize) -> Stage {
         Stage {
             board: opened(rt, alloc, 518, limits),
-            followers: vacant(alloc, room).expect(rt, "memory"),
+            followers: vacant(rt, alloc, room),
         }
     }
 
@@ -90,7 +90,7 @@ impl Stage {
         match self.board.follow(from) {
             Ok(follower) => {
                 let answer = Answer::Following(follower.joined(), follower.taken());
-                self.followers[who] = Some(follower);
+                drop(self.followers[who].replace(follower));
                 answer
             }
             Err(refusal) => Answer::Refused(refusal),
@@ -124,7 +124,7 @@ impl Stage {
         if who >= self.followers.len() || self.followers[who].is_none() {
             return Answer::Amiss;
         }
-        self.followers[who] = None;
+        drop(self.followers[who].take());
         Answer::Dropped
     }
 }

@@ -1,5 +1,6 @@
 //! Cases as tables: what is asked of a live board and its followers, and what they have to answer, one row each.
 
+use crate::tests::claims::claim_in;
 use crate::tests::live_boards::games::limits_of;
 use crate::tests::live_boards::stage::{Answer, Ask, Stage};
 use crate::tests::values::{account, move_of};
@@ -88,11 +89,6 @@ fn line_of(asked: Asked) -> &'static str {
     }
 }
 
-/// Asserts that a text of a row of a case is answered as the row says.
-fn assert_told(rt: &impl Abort, is_told: bool, (name, row): (&str, usize), text: &str) {
-    assert!(rt; is_told, "{name}, row {row}, {text}");
-}
-
 /// Asserts that a board answers as a row says, each move of its line in turn.
 fn assert_row(
     rt: &impl Abort,
@@ -104,7 +100,7 @@ fn assert_row(
     for text in line_of(asked).split(' ') {
         let answer = stage.ask(ask_of(rt, asked, text));
         let is_told = answer == answer_of(rt, told, after);
-        assert_told(rt, is_told, (name, row), text);
+        claim_in(rt, is_told, name, text, row);
         after = after.saturating_add(1);
     }
 }
@@ -123,4 +119,5 @@ pub fn assert_case(
     for row in 0..rows.len() {
         assert_row(rt, &mut stage, (name, row), rows[row]);
     }
+    drop(stage);
 }

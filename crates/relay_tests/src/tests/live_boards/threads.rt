@@ -65,6 +65,7 @@ fn take_the_rest(rt: &impl Abort, alloc: Global, follower: &mut Follower, had: &
     added.expect(rt, "memory");
     had.in_order = had.in_order && late.in_order;
     had.last = late.last;
+    drop(late);
 }
 
 /// Whether the last answer is that the follower was closed, or all of the game was had and it is over.
@@ -157,6 +158,7 @@ fn play_before_two<R: Threads + Abort>(
     let is_first_closed = was_closed(rt, moves, first);
     let is_second_closed = was_closed(rt, moves, second);
     claim(rt, has_room_for_two(&mut board), "both slots are vacant");
+    drop(board);
     is_first_closed || is_second_closed
 }
 

@@ -59,6 +59,7 @@ fn assert_stretch(rt: &impl Abort, moves: &[Move], visit: Visit) {
         is_last(took.last, &account, to, moves.len()),
         "the last answer",
     );
+    drop(took);
 }
 
 /// A follower from the present or a place back; none if the board is full.
@@ -132,6 +133,7 @@ fn play<R: Threads + Abort>(
     for _ in 0..3 {
         claim(rt, has_room(alloc, &mut board), "a vacant slot");
     }
+    drop(board);
     count
 }
 

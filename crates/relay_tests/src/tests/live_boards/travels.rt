@@ -1,5 +1,7 @@
 //! A follower that moves to another thread and leaves there, and what board and follower know once they have met.
 
+ghost use Rattle.std.specs.Prelude.{◌≡◌};
+
 use crate::tests::claims::claim;
 use crate::tests::deeds::{followed, is_full, leaves, opened};
 use crate::tests::live_boards::games::limits_of;
@@ -8,22 +10,18 @@ use c960_game::{Ending, Outcome};
 use live_board::{Board, Follower, meet};
 use relay_core::{Account, Taken};
 use std::process::Abort;
-use std::test::Fail;
 use std::thread;
 use std::thread::Threads;
 
 /// What a follower takes in a thread of its own, twice, and its account, since it leaves there.
-fn taken_elsewhere<R: Threads + Abort>(
-    rt: &R,
-    mut follower: Follower,
-) -> Result<(Taken, Taken, Account), Fail> {
+fn taken_elsewhere<R: Threads + Abort>(rt: &R, mut follower: Follower) -> (Taken, Taken, Account) {
     let child = thread::spawn(rt, move || {
         let first = follower.take();
         let second = follower.take();
         let (told, _) = follower.leave();
         (first, second, told)
-    })?;
-    Ok(child.join(rt))
+    });
+    child.expect(rt, "a thread").join(rt)
 }
 
 /// Asserts that one more may follow, from place 1 on.
@@ -31,10 +29,11 @@ fn assert_room(rt: &impl Abort, board: &mut Board) {
     let next = followed(rt, board, None);
     claim(rt, next.joined() == 1, "the slot is found again");
     claim(rt, next.taken() == 0, "nothing is taken yet");
+    drop(next);
 }
 
 #[test]
-fn a_follower_goes_to_another_thread(rt: HostRuntime) -> Result<(), Fail> {
+fn a_follower_goes_to_another_thread(rt: HostRuntime) {
     let mut board = opened(&rt, rt.alloc(), 518, limits_of(&rt, 1, 64, 1024));
     let mut follower = board.follow(None).expect(&rt, "one follows");
     let played = board.submit(move_of(&rt, "e2e4"));
@@ -42,27 +41,36 @@ fn a_follower_goes_to_another_thread(rt: HostRuntime) -> Result<(), Fail> {
     claim(&rt, played == Ok((0, None)), "e2e4 is played");
     claim(&rt, known == account(0, 0, 1, false), "one move is known");
     claim(&rt, is_full(&mut board), "the slot is taken");
-    let (first, second, told) = taken_elsewhere(&rt, follower)?;
+    let (first, second, told) = taken_elsewhere(&rt, follower);
     let e2e4 = Taken::Move(0, move_of(&rt, "e2e4"));
     claim(&rt, first == e2e4, "e2e4 is taken");
     claim(&rt, second == Taken::Nothing, "nothing is behind it");
     claim(&rt, told == account(0, 1, 1, false), "the account");
     assert_room(&rt, &mut board);
-    Ok(())
+    drop(board);
 }
 
-/// Asserts that these are the first two moves, and then that the follower was closed.
-fn assert_two_and_cut(rt: &impl Abort, taken: &[Taken]) {
-    let wanted = [
-        Taken::Move(0, move_of(rt, "e2e4")),
-        Taken::Move(1, move_of(rt, "e7e5")),
-        Taken::Cut,
-    ];
-    claim(rt, taken == wanted.as_slice(), "two moves and the closing");
+/// Asserts that a follower takes this. Its contract says only that it may meet its board as before.
+fn assert_taken(rt: &impl Abort, follower: &mut Follower, wanted: Taken, what: &str)
+    ensures { follower.new.table ≡ follower.old.table }
+{
+    let taken = follower.take();
+    claim(rt, taken == wanted, what);
+}
+
+/// Asserts that a follower takes the first two moves, and then hears that it was closed.
+fn assert_two_and_cut(rt: &impl Abort, slow: &mut Follower)
+    ensures { slow.new.table ≡ slow.old.table }
+{
+    let first = Taken::Move(0, move_of(rt, "e2e4"));
+    assert_taken(rt, slow, first, "the first move");
+    let second = Taken::Move(1, move_of(rt, "e7e5"));
+    assert_taken(rt, slow, second, "the second move");
+    assert_taken(rt, slow, Taken::Cut, "the closing");
 }
 
 #[test]
-fn after_a_meeting_it_knows_what_the_board_knows(rt: HostRuntime) -> Result<(), Fail> {
+fn after_a_meeting_it_knows_what_the_board_knows(rt: HostRuntime) {
     let mut board = opened(&rt, rt.alloc(), 518, limits_of(&rt, 1, 2, 1024));
     let mut slow = board.follow(None).expect(&rt, "one follows");
     let two = [
@@ -72,7 +80,7 @@ fn after_a_meeting_it_knows_what_the_board_knows(rt: HostRuntime) -> Result<(), 
     let open = meet(&mut board, &mut slow);
     let third = board.submit(move_of(&rt, "g1f3"));
     let closed = meet(&mut board, &mut slow);
-    let taken = [slow.take(), slow.take(), slow.take()];
+    assert_two_and_cut(&rt, &mut slow);
     let end = board.end(Ending::Agreed);
     let ended = meet(&mut board, &mut slow);
     claim(
@@ -87,9 +95,8 @@ fn after_a_meeting_it_knows_what_the_board_knows(rt: HostRuntime) -> Result<(), 
         closed == account(0, 0, 2, true),
         "the closing is known",
     );
-    assert_two_and_cut(&rt, &taken);
     claim(&rt, end == Ok(Outcome::Agreed), "a draw is agreed");
     claim(&rt, ended == account(0, 2, 2, true), "two are taken");
     claim(&rt, leaves(slow) == account(0, 2, 2, true), "the account");
-    Ok(())
+    drop(board);
 }

@@ -7,9 +7,8 @@ use crate::tests::claims::claim;
 use crate::tests::messages::ways::{said_on_main, said_on_watch};
 use arrayvec::ArrayVec;
 use relay_messages::{Decoder, MessageFault};
-use std::alloc::{AllocError, Global};
+use std::alloc::Global;
 use std::process::Abort;
-use std::test::Fail;
 
 /// How many of the texts below are changed at each place.
 const CHANGED: usize = 23;
@@ -104,7 +103,7 @@ static TEXTS: [&str; 77] = [
 ];
 
 /// The texts.
-fn texts() -> &'static [&'static str] {
+fn texts() -> &'static [&'static str; 77] {
     &TEXTS
 }
 
@@ -119,7 +118,7 @@ const FRONTS: [&str; 3] = [
 ];
 
 /// Numbers at both sides of the bounds of a place, of a spectator and of 64 bits, and other forms.
-const NUMBERS: [&str; 18] = [
+static NUMBERS: [&str; 18] = [
     "0",
     "00",
     "01",
@@ -140,6 +139,11 @@ const NUMBERS: [&str; 18] = [
     "1e0",
 ];
 
+/// The numbers.
+fn numbers() -> &'static [&'static str] {
+    &NUMBERS
+}
+
 /// What stands before and behind a text of any length. Usual and compact objects have at most 128 bytes.
 const LONG: [(&str, &str); 4] = [
     (r#"{"cmd":"submit","board":""#, r#"","move":"e2e4"}"#),
@@ -149,7 +153,7 @@ const LONG: [(&str, &str); 4] = [
 ];
 
 /// Members, some of them none.
-const MEMBERS: [&str; 42] = [
+static MEMBERS: [&str; 42] = [
     r#""cmd":"open""#,
     r#""cmd":"submit""#,
     r#""cmd":"end""#,
@@ -194,11 +198,16 @@ const MEMBERS: [&str; 42] = [
     "",
 ];
 
+/// One of the members.
+fn member_by(number: u32) -> &'static str {
+    MEMBERS[(number % 42) as usize]
+}
+
 /// What stands between two members, nearly always a comma.
-const BETWEEN: [&str; 8] = [",", ",", ",", ",", ",", ", ", "", ":"];
+static BETWEEN: [&str; 8] = [",", ",", ",", ",", ",", ", ", "", ":"];
 
 /// What stands behind the members, mostly a brace.
-const BEHIND: [&str; 8] = ["}", "}", "}", "}", "} ", "}}", "},", ""];
+static BEHIND: [&str; 8] = ["}", "}", "}", "}", "} ", "}}", "},", ""];
 
 /// A text behind a space; none if it is longer than a text may be.
 type Spaced = ArrayVec<u8, 1024>;
@@ -258,7 +267,7 @@ fn a_text_that_is_changed_at_any_place_is_read_as_behind_a_space(rt: HostRuntime
     for text in texts() {
         assert_agrees(&rt, &mut decoder, text.as_bytes(), b"", b"");
     }
-    for text in texts().iter().take(CHANGED) {
+    for text in &texts()[..CHANGED] {
         let bytes = text.as_bytes();
         for place in 0..=bytes.len() {
             assert_around(&rt, &mut decoder, &bytes[..place], &bytes[place..]);
@@ -267,47 +276,65 @@ fn a_text_that_is_changed_at_any_place_is_read_as_behind_a_space(rt: HostRuntime
     // Not UTF-8.
     let said = said_on_watch(&mut decoder, b"{\"cmd\":\"boards\xff\"}");
     claim(&rt, said == Err(MessageFault::NotJson), "not UTF-8");
+    drop(decoder);
+}
+
+/// Asserts that each number is read as behind a space, if this stands before it.
+fn assert_numbers(rt: &impl Abort, decoder: &mut Decoder, front: &str) {
+    for number in numbers() {
+        assert_agrees(rt, decoder, front.as_bytes(), number.as_bytes(), b"}");
+    }
+}
+
+/// Asserts that up to 960 letters are read as behind a space, if these stand before and behind them.
+fn assert_lengths(rt: &impl Abort, decoder: &mut Decoder, front: &str, behind: &str) {
+    let letters = [b'x'; 960];
+    for length in 0..=960 {
+        let name = &letters[..length];
+        assert_agrees(rt, decoder, front.as_bytes(), name, behind.as_bytes());
+    }
 }
 
 #[test]
 fn any_number_and_any_length_is_read_as_behind_a_space(rt: HostRuntime) {
     let mut decoder = Decoder::new(rt.alloc());
     for front in FRONTS {
-        for number in NUMBERS {
-            assert_agrees(&rt, &mut decoder, front.as_bytes(), number.as_bytes(), b"}");
-        }
+        assert_numbers(&rt, &mut decoder, front);
     }
-    let letters = [b'x'; 960];
     for (front, behind) in LONG {
-        for length in 0..=960 {
-            let name = &letters[..length];
-            assert_agrees(&rt, &mut decoder, front.as_bytes(), name, behind.as_bytes());
-        }
+        assert_lengths(&rt, &mut decoder, front, behind);
     }
+    drop(decoder);
+}
+
+/// Adds a piece to a text.
+fn add(rt: &impl Abort, text: &mut Vec<u8>, piece: &str) {
+    let added = text.extend_from_slice(piece.as_bytes());
+    added.expect(rt, "memory");
 }
 
 /// Members by chance, as many as an object may have that is read without the general way, or one or two more.
-fn text_by_chance(alloc: Global, dice: &mut Dice) -> Result<Vec<u8>, AllocError> {
+fn text_by_chance(rt: &impl Abort, alloc: Global, dice: &mut Dice) -> Vec<u8> {
     let mut text = Vec::new(alloc);
-    text.push(b'{')?;
+    add(rt, &mut text, "{");
     let count = dice.roll() % 6;
     for place in 0..count {
         if place > 0 {
-            text.extend_from_slice(BETWEEN[dice.roll() as usize % 8].as_bytes())?;
+            add(rt, &mut text, BETWEEN[dice.roll() as usize % 8]);
         }
-        text.extend_from_slice(MEMBERS[dice.roll() as usize % 42].as_bytes())?;
+        add(rt, &mut text, member_by(dice.roll()));
     }
-    text.extend_from_slice(BEHIND[dice.roll() as usize % 8].as_bytes())?;
-    Ok(text)
+    add(rt, &mut text, BEHIND[dice.roll() as usize % 8]);
+    text
 }
 
 #[test]
-fn members_by_chance_are_read_as_behind_a_space(rt: HostRuntime) -> Result<(), Fail> {
+fn members_by_chance_are_read_as_behind_a_space(rt: HostRuntime) {
     let mut decoder = Decoder::new(rt.alloc());
     let mut dice = Dice { seed: 5 };
     for _ in 0..20000 {
-        let text = text_by_chance(rt.alloc(), &mut dice)?;
+        let text = text_by_chance(&rt, rt.alloc(), &mut dice);
         assert_agrees(&rt, &mut decoder, text.as_slice(), b"", b"");
     }
-    Ok(())
+    drop(decoder);
 }

@@ -1,7 +1,6 @@
 //! The texts of answers. The test holds with each allocation refused in turn (`rt try --test --fail-alloc N`). That they are JSON which
 //! says the same is shown on the built program, whose answers are compared with texts that Python writes.
 
-use crate::tests::again::again;
 use crate::tests::claims::claim_of;
 use crate::tests::relays::table::{Told, reply_of};
 use crate::tests::values::START_518;
@@ -10,7 +9,7 @@ use c960_board::Colour;
 use c960_game::Result::{BlackWins, Draw, WhiteWins};
 use c960_game::{Outcome, Refusal};
 use relay_messages::{Answer, MessageFault, encode, encode_within};
-use std::alloc::Global;
+use std::alloc::{AllocError, Global};
 use std::process::Abort;
 
 /// A space of which this many bytes are left. Before them stand full stops.
@@ -41,9 +40,17 @@ fn is_written_behind(answer: &Answer, text: &str) -> bool {
         && space.as_slice().ends_with(text.as_bytes())
 }
 
-/// Whether an answer has this text in memory of its own, which is asked for again if it was refused.
+/// The text of an answer in memory of its own, which is asked for again if it was refused.
+fn encoded(rt: &impl Abort, alloc: Global, answer: &Answer) -> String {
+    match encode(alloc, answer) {
+        Ok(text) => text,
+        Err(AllocError) => encode(alloc, answer).expect(rt, "one refusal at the most"),
+    }
+}
+
+/// Whether an answer has this text in memory of its own.
 fn is_encoded(rt: &impl Abort, alloc: Global, answer: &Answer, text: &str) -> bool {
-    let own = again(rt, || encode(alloc, answer));
+    let own = encoded(rt, alloc, answer);
     own.as_str() == text
 }
 

@@ -3,7 +3,6 @@
 use crate::tests::claims::claim;
 use crate::tests::values::{board_of, move_of, position_of};
 use relay_messages::{BoardSummary, encode_board};
-use std::alloc::AllocError;
 
 /// The text.
 fn longest() -> &'static str {
@@ -12,9 +11,7 @@ fn longest() -> &'static str {
 }
 
 #[test]
-fn the_longest_name_and_the_greatest_numbers_are_in_the_text(
-    rt: HostRuntime,
-) -> Result<(), AllocError> {
+fn the_longest_name_and_the_greatest_numbers_are_in_the_text(rt: HostRuntime) {
     let summary = BoardSummary {
         board: board_of(&rt, "ABCDEFGHIJKLMNOPQRSTUVWXYZ_-0189"),
         start: 65535,
@@ -23,7 +20,6 @@ fn the_longest_name_and_the_greatest_numbers_are_in_the_text(
         plies: 65535,
         outcome: None,
     };
-    let given = encode_board(rt.alloc(), &summary)?;
+    let given = encode_board(rt.alloc(), &summary).expect(&rt, "memory");
     claim(&rt, given.as_str() == longest(), "the text");
-    Ok(())
 }

@@ -105,7 +105,7 @@ static TEXTS: [(&str, Result<Asked, MessageFault>); 26] = [
 ];
 
 /// The texts.
-fn texts() -> &'static [(&'static str, Result<Asked, MessageFault>)] {
+fn texts() -> &'static [(&'static str, Result<Asked, MessageFault>); 26] {
     &TEXTS
 }
 
@@ -141,7 +141,7 @@ fn is_read(decoder: &mut Decoder, text: &[u8], wanted: Result<Step, MessageFault
 #[test]
 fn usual_and_compact_texts_take_no_memory(rt: HostRuntime) {
     let mut decoder = Decoder::new(rt.alloc());
-    for (text, read) in texts().iter().take(FREE) {
+    for (text, read) in &texts()[..FREE] {
         let wanted = wanted_of(&rt, *read);
         let is_read = is_read(&mut decoder, text.as_bytes(), wanted);
         claim_of(&rt, is_read, "the meaning", *text);
@@ -150,6 +150,7 @@ fn usual_and_compact_texts_take_no_memory(rt: HostRuntime) {
     claim_of(&rt, too_long, "the meaning", "1,025 bytes");
     let boards = is_boards(&mut decoder, r#"{"cmd":"boards"}"#);
     claim_of(&rt, boards, "the meaning", "boards");
+    drop(decoder);
 }
 
 /// A decoder reads texts one after another, and may say of one that there was no memory for it.
@@ -164,6 +165,7 @@ fn a_decoder_reads_texts_one_after_another(rt: HostRuntime) {
     }
     let said = said_on_main(&mut decoder, TAKE.as_bytes());
     claim_of(&rt, said == Ok(Step::Take(7)), "the last text", TAKE);
+    drop(decoder);
     let said = decode(rt.alloc(), TAKE.as_bytes());
     claim_of(&rt, said == Ok(Step::Take(7)), "by itself", TAKE);
 }

@@ -1,7 +1,7 @@
 //! The two kinds of relay, which are given the same steps. The built program, which runs the one over live boards, is given these steps
 //! too, and is compared with a plain relay (`crates/relay960/replays/by_chance.py`).
 
-use crate::tests::relays::kinds::reply_to;
+use crate::tests::relays::kinds::{made, reply_to};
 use crate::tests::relays::table::assert_step;
 use c960_game::Limits;
 use relay_core::{Relay, Reply, Step};
@@ -19,8 +19,8 @@ pub struct Both {
 /// Relays without boards.
 pub fn both_of(rt: &impl Abort, alloc: Global, limits: Limits) -> Both {
     Both {
-        plain: Relay::new(alloc, limits).expect(rt, "memory"),
-        live: LiveRelay::new(alloc, limits).expect(rt, "memory"),
+        plain: made(rt, alloc, limits),
+        live: made(rt, alloc, limits),
     }
 }
 

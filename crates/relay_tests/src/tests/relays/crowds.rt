@@ -3,6 +3,7 @@
 use crate::tests::relays::both::{Both, ask, both_of};
 use crate::tests::relays::table::limits_of;
 use crate::tests::values::{board_of, move_of};
+use c960_board::Move;
 use relay_core::{BoardName, Spectator, Step};
 use std::alloc::Global;
 use std::process::Abort;
@@ -11,9 +12,14 @@ use std::process::Abort;
 const CROWD: u32 = 40;
 
 /// The moves of each game.
-const LINE: [&str; 8] = [
+static LINE: [&str; 8] = [
     "e2e4", "e7e5", "g1f3", "b8c6", "f1b5", "a7a6", "b5a4", "g8f6",
 ];
+
+/// The move of this number, of eight.
+fn move_by(rt: &impl Abort, number: u32) -> Move {
+    move_of(rt, LINE[(number % 8) as usize])
+}
 
 /// The spectator that leaves after so many others: who came first, who came last, or one of those between.
 fn leaver(order: u32, others: u32) -> Spectator {
@@ -28,7 +34,7 @@ fn leaver(order: u32, others: u32) -> Spectator {
 fn gather(rt: &impl Abort, both: &mut Both, board: BoardName) {
     for who in 0..CROWD {
         if who % 10 == 0 {
-            let m = move_of(rt, LINE[(who / 10) as usize]);
+            let m = move_by(rt, who / 10);
             let _ = ask(rt, both, &Step::Submit(board, m));
         }
         let _ = ask(rt, both, &Step::Follow(who, board, None));
@@ -59,6 +65,7 @@ fn a_crowd_that_leaves_in_any_order_is_answered_alike(rt: HostRuntime) {
         let _ = ask(&rt, &mut both, &Step::Open(board, 518));
         gather(&rt, &mut both, board);
         come_and_go(&rt, &mut both, board, order);
+        drop(both);
     }
 }
 
@@ -108,7 +115,7 @@ fn change(rt: &impl Abort, both: &mut Both, (boards, more): (u32, u32), who: u32
 
 /// The same move on each board by turns, behind which one of the first followers and one of the last change. Then four of five take.
 fn play(rt: &impl Abort, both: &mut Both, (boards, followers): (u32, u32), round: u32) {
-    let m = move_of(rt, LINE[(round % 8) as usize]);
+    let m = move_by(rt, round);
     for turn in 0..boards {
         let _ = ask(rt, both, &Step::Submit(board(rt, boards, turn), m));
         let first = round.saturating_add(turn.saturating_mul(7));
@@ -135,6 +142,7 @@ fn assert_alike(rt: &impl Abort, alloc: Global, boards: u32, followers: u16) {
         let _ = ask(rt, &mut both, &Step::Take(who));
         let _ = ask(rt, &mut both, &Step::Leave(who));
     }
+    drop(both);
 }
 
 #[test]

@@ -7,9 +7,8 @@ use crate::tests::relays::cases::full_queue;
 use crate::tests::relays::table::{Asked, Told, case_of, limits_of};
 use crate::tests::values::{account, board_of};
 use relay_live::Board;
-use std::alloc::{AllocError, Global};
+use std::alloc::Global;
 use std::process::Abort;
-use std::test::Fail;
 
 /// The board of that name, from a relay that has answered these rows: one follower a board, two moves a queue.
 fn board_after(
@@ -17,17 +16,18 @@ fn board_after(
     alloc: Global,
     rows: &[(Asked, Told)],
     name: &str,
-) -> Result<Option<Board>, AllocError> {
-    let case = case_of(rt, alloc, rows)?;
+) -> Option<Board> {
+    let case = case_of(rt, alloc, rows).expect(rt, "memory");
     let limits = limits_of(rt, (2, 1, 2, 64));
-    let name = board_of(rt, name);
-    let (replies, board) = play_and_hand_out(alloc, limits, case.steps.as_slice(), &name)?;
+    let handed = play_and_hand_out(alloc, limits, case.steps.as_slice(), &board_of(rt, name));
+    let (replies, board) = handed.expect(rt, "memory");
     claim(
         rt,
         replies.as_slice() == case.replies.as_slice(),
         "the replies",
     );
-    Ok(board)
+    drop((replies, case));
+    board
 }
 
 /// Asserts that a board has three moves and has not ended, and that one may follow it.
@@ -37,22 +37,23 @@ fn assert_goes_on(rt: &impl Abort, mut board: Board) {
     let follower = followed(rt, &mut board, None);
     let told = leaves(follower) == account(3, 0, 3, false);
     claim(rt, told, "its slot was given back");
+    drop(board);
 }
 
 #[test]
-fn a_board_is_handed_out_with_its_game(rt: HostRuntime) -> Result<(), Fail> {
-    let board = board_after(&rt, rt.alloc(), full_queue(), "b1")?;
+fn a_board_is_handed_out_with_its_game(rt: HostRuntime) {
+    let board = board_after(&rt, rt.alloc(), full_queue(), "b1");
     assert_goes_on(&rt, board.expect(&rt, "a board"));
-    let other = board_after(&rt, rt.alloc(), full_queue(), "b9")?;
+    let other = board_after(&rt, rt.alloc(), full_queue(), "b9");
     claim(&rt, other.is_none(), "no board b9");
-    Ok(())
+    drop(other);
 }
 
 #[test]
-fn who_followed_a_board_keeps_its_place_there(rt: HostRuntime) -> Result<(), Fail> {
+fn who_followed_a_board_keeps_its_place_there(rt: HostRuntime) {
     // All rows but the last, in which the follower leaves.
-    let board = board_after(&rt, rt.alloc(), &full_queue()[..9], "b1")?;
+    let board = board_after(&rt, rt.alloc(), &full_queue()[..9], "b1");
     let mut board = board.expect(&rt, "a board");
     claim(&rt, is_full(&mut board), "its slot is taken");
-    Ok(())
+    drop(board);
 }

@@ -1,7 +1,6 @@
 //! Lack of memory. If one allocation is refused (`rt try --test --fail-alloc N`, for each N in turn), the call that needed
 //! it says so and changes nothing, and is accepted when made again; everything else is answered as ever.
 
-use crate::tests::again::again;
 use crate::tests::claims::{claim, claim_at};
 use crate::tests::relays::cases::mate;
 use crate::tests::relays::kinds::{Kind, reply_to};
@@ -42,7 +41,10 @@ fn new_relay<K: Kind>(rt: &impl Abort, alloc: Global, limits: Limits, refused: &
 
 /// The case of these rows, made again if it was refused.
 fn case_again(rt: &impl Abort, alloc: Global, rows: &[(Asked, Told)]) -> Case {
-    again(rt, || case_of(rt, alloc, rows))
+    match case_of(rt, alloc, rows) {
+        Ok(case) => case,
+        Err(AllocError) => case_of(rt, alloc, rows).expect(rt, "one refusal at the most"),
+    }
 }
 
 /// Whether a step may be refused for lack of memory.
@@ -143,6 +145,7 @@ fn refusals_in<K: Kind>(
     let case = case_again(rt, alloc, rows);
     let mut relay: K = new_relay(rt, alloc, limits_of(rt, limits), &mut refused);
     assert_answers(rt, &mut relay, &case, &mut refused);
+    drop(case);
     refused.count
 }
 
@@ -215,6 +218,7 @@ fn refusals_of_a_run<K: Kind>(rt: &impl Abort, alloc: Global) -> u32 {
     let mut relay: K = new_relay(rt, alloc, limits, &mut refused);
     let given = run(rt, &mut relay, case.steps.as_slice(), &mut refused);
     assert_replies(rt, given.as_slice(), case.replies.as_slice(), &mut refused);
+    drop((given, case));
     refused.count
 }
 

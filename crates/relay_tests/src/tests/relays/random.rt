@@ -45,7 +45,9 @@ fn steps_by_chance_are_answered_alike(rt: HostRuntime) {
     for numbers in LIMITS {
         let mut both = both_of(&rt, rt.alloc(), limits_of(&rt, numbers));
         for _ in 0..300 {
-            let _ = ask(&rt, &mut both, &any_step(&rt, &mut dice));
+            let step = any_step(&rt, &mut dice);
+            let _ = ask(&rt, &mut both, &step);
         }
+        drop(both);
     }
 }

@@ -1,6 +1,7 @@
 //! Cases as tables: what is asked of a relay, and what it has to answer, one row each.
 
-use crate::tests::relays::kinds::Kind;
+use crate::tests::claims::claim_in;
+use crate::tests::relays::kinds::{Kind, made};
 use crate::tests::values::{account, board_of, move_of, position_of};
 use c960_game::{Ending, Limits, Outcome, Refusal};
 use relay_core::{Relay, Reply, Spectator, Step, Taken};
@@ -143,9 +144,23 @@ fn add_row(rt: &impl Abort, case: &mut Case, row: &(Asked, Told)) -> Result<(), 
     Ok(())
 }
 
-/// Asserts that a reply of a case is the one that has to be given.
-fn assert_reply(rt: &impl Abort, is_told: bool, case: &str, kind: &str, step: usize) {
-    assert!(rt; is_told, "{case}, {kind}, step {step}");
+/// Asserts that these replies of a case are those that have to be given.
+fn assert_replies(rt: &impl Abort, given: &[Reply], told: &[Reply], (name, kind): (&str, &str)) {
+    for i in 0..given.len().min(told.len()) {
+        claim_in(rt, given[i] == told[i], name, kind, i);
+    }
+    claim_in(rt, given.len() == told.len(), name, kind, given.len());
+}
+
+/// What a new relay of the kind replies to these steps in one run.
+fn replies_of<K: Kind>(
+    rt: &impl Abort,
+    alloc: Global,
+    limits: Limits,
+    steps: &[Step],
+) -> Vec<Reply> {
+    let mut relay: K = made(rt, alloc, limits);
+    relay.ran(steps).expect(rt, "memory")
 }
 
 /// Asserts that a new relay of the kind, which is named so, gives the replies of a case in one run.
@@ -154,21 +169,10 @@ fn assert_run<K: Kind>(
     alloc: Global,
     limits: Limits,
     case: &Case,
-    (name, kind): (&str, &str),
-) -> Result<(), AllocError> {
-    let mut relay = K::made(alloc, limits)?;
-    let given = relay.ran(case.steps.as_slice())?;
-    for (step, (reply, told)) in given.iter().zip(&case.replies).enumerate() {
-        assert_reply(rt, reply == told, name, kind, step);
-    }
-    assert_reply(
-        rt,
-        given.len() == case.replies.len(),
-        name,
-        kind,
-        given.len(),
-    );
-    Ok(())
+    names: (&str, &str),
+) {
+    let given = replies_of::<K>(rt, alloc, limits, case.steps.as_slice());
+    assert_replies(rt, given.as_slice(), case.replies.as_slice(), names);
 }
 
 /// Asserts that a relay of either kind with these limits answers each row in this way.
@@ -178,9 +182,10 @@ pub fn assert_case(
     name: &str,
     numbers: (u16, u16, u16, u16),
     rows: &[(Asked, Told)],
-) -> Result<(), AllocError> {
-    let case = case_of(rt, alloc, rows)?;
+) {
+    let case = case_of(rt, alloc, rows).expect(rt, "memory");
     let limits = limits_of(rt, numbers);
-    assert_run::<Relay>(rt, alloc, limits, &case, (name, "relay"))?;
-    assert_run::<LiveRelay>(rt, alloc, limits, &case, (name, "live relay"))
+    assert_run::<Relay>(rt, alloc, limits, &case, (name, "relay"));
+    assert_run::<LiveRelay>(rt, alloc, limits, &case, (name, "live relay"));
+    drop(case);
 }

@@ -2,10 +2,10 @@
 //! this of the types, and no contract says it.
 
 use crate::tests::claims::claim;
-use c960_game::Limits;
+use crate::tests::relays::kinds::made;
+use crate::tests::relays::table::limits_of;
 use relay_core::Relay;
 use relay_live::LiveRelay;
-use std::test::Fail;
 
 /// Whether values of the type may go to another thread: only such a type is taken.
 fn may_go<T: Send>(_value: &T) -> bool {
@@ -18,17 +18,15 @@ fn may_be_shared<T: Sync>(_value: &T) -> bool {
 }
 
 #[test]
-fn a_relay_may_go_to_another_thread_and_be_shared(rt: HostRuntime) -> Result<(), Fail> {
-    let limits = Limits::new(1, 1, 1, 1).expect(&rt, "limits");
-    let relay = Relay::new(rt.alloc(), limits)?;
+fn a_relay_may_go_to_another_thread_and_be_shared(rt: HostRuntime) {
+    let relay: Relay = made(&rt, rt.alloc(), limits_of(&rt, (1, 1, 1, 1)));
     claim(&rt, may_go(&relay) && may_be_shared(&relay), "it may");
-    Ok(())
+    drop(relay);
 }
 
 #[test]
-fn a_live_relay_may_go_to_another_thread(rt: HostRuntime) -> Result<(), Fail> {
-    let limits = Limits::new(1, 1, 1, 1).expect(&rt, "limits");
-    let relay = LiveRelay::new(rt.alloc(), limits)?;
+fn a_live_relay_may_go_to_another_thread(rt: HostRuntime) {
+    let relay: LiveRelay = made(&rt, rt.alloc(), limits_of(&rt, (1, 1, 1, 1)));
     claim(&rt, may_go(&relay), "it may");
-    Ok(())
+    drop(relay);
 }
