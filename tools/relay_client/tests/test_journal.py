@@ -88,9 +88,10 @@ class AfterAKill(Journals):
             Connection(server.port).asks(follows("b1"), following(3, AFTER))
 
     def test_a_board_without_a_key_has_ended_as_abandoned(self):
-        """Nobody could come back to it. That is in the journal too."""
+        """Nobody could come back to it. That is in the journal too. Its operator is there until the kill, or it could end before that."""
         with self.serves() as server:
-            play(owner_of(server), MOVES)
+            owner = owner_of(server)
+            play(owner, MOVES)
         self.assertEqual(self.checked(), (["board b1: start 518, plies 3, goes on", "whole"], 0))
         with self.serves() as server:
             guest = Connection(server.port)
