@@ -1,12 +1,12 @@
 //! A service and its journal, as one value.
 
-ghost use Rattle.std.specs.Prelude.{◌≡◌, ℕ, None, IfOk, IsErrOf, OnErr, OnOk, false, is_some, length, true};
+ghost use Rattle.std.specs.Prelude.{◌≡◌, ℕ, None, IfOk, IsErr, IsErrOf, OnErr, OnOk, false, is_some, length, true};
 ghost use Rattle.relay_hall.specs.Record.{HallRecord, nobody_yet};
 ghost use Rattle.relay_journal.specs.Restarting.{IsRefusedAt, IsRestarted};
 ghost use Rattle.relay_journal.specs.declared.unfit.Unfit.TheVariants.{Refused};
 ghost use Rattle.relay_service.specs.Resumed.{IsResumed};
 ghost use Rattle.relay_durable.specs.Keeping.{HasCause, IsJournalOf, IsKept, IsOneEvent};
-ghost use Rattle.relay_durable.specs.Record.{is_settled};
+ghost use Rattle.relay_durable.specs.Record.{has_failed, has_failed_by, is_settled};
 
 mod changing;
 mod looking;
@@ -50,6 +50,7 @@ fn note<S: StableStorage>(alloc: Global, scribe: &mut Option<Scribe<S>>, hall: &
     ensures kept { (k : HallRecord) → IsOneEvent k hall.now → IsKept S.contents S.synced scribe.old k.floor
         → IsKept S.contents S.synced scribe.new hall.now.floor }
     ensures journal { is_some scribe.new ≡ is_some scribe.old }
+    ensures silent { has_failed_by scribe.old ≡ true → scribe.new ≡ scribe.old }
 {
     if let Some(scribe) = scribe {
         let _ = scribe.note(alloc, hall);
@@ -130,6 +131,8 @@ impl<S: StableStorage> DurableService<S> {
         ensures service { self.new.service ≡ self.old.service }
         ensures journal { is_some self.new.scribe ≡ is_some self.old.scribe }
         ensures cause { OnErr result (HasCause S.failures self.old.scribe self.new.scribe) }
+        ensures lasting { OnErr result (has_failed self.new ≡ true) }
+        ensures silent { has_failed self.old ≡ true → IsErr result × (self.new ≡ self.old) }
     {
         let Some(scribe) = &mut self.scribe else {
             return Ok(());

@@ -1,7 +1,8 @@
 -- How long a connection is waited for, in the units of the loop's clock.
-use Rattle.std.specs.Prelude.{ℕ, ◌+◌, ◌-◌, ◌/◌, nat_le, nat_lt, Bool, false, cond, is_some, Option, None, Some}
+use Rattle.std.specs.Prelude.{ℕ, ◌+◌, ◌-◌, ◌*◌, ◌/◌, nat_le, nat_lt, Bool, false, cond, is_some, Option, None, Some}
 use Rattle.server_loop.specs.declared.silence.TheConstants.{MOST_PINGS}
 use Rattle.server_loop.specs.declared.deadlines.Deadlines.{Deadlines}
+use Rattle.server_loop.specs.declared.silence.Silence.{Silence}
 use Rattle.server_loop.specs.declared.deadlines.SlowReader.{SlowReader}
 use Rattle.server_loop.specs.declared.deadlines.Times.{Times}
 use Rattle.server_loop.specs.declared.deadlines.Stage.{Stage}
@@ -62,10 +63,18 @@ verdict_of t d now Leaves most_idle = cond (has_lasted d.waits_since now t.wait)
 verdict_of t d now Asks most_idle = verdict_talking t d now most_idle
 verdict_of t d now Follows most_idle = verdict_talking t d now None
 
+-- since when a silence counts, of which so many pings were sent, the last of them now: each has a whole time of silence behind it
+abbrev pub counted_from : Silence → ℕ → ℕ → ℕ
+counted_from s now silent = cond (nat_lt s.pings (steps_in (now - s.heard_at) silent)) (now - s.pings * silent) s.heard_at
+
+-- one ping more, sent now
+abbrev pub pinged : Silence → Silence
+pinged s = record s { pings = s.pings + 1 }
+
 -- a ping and an attempt are counted, and so is the time to take a close
 abbrev pub counted_by : Times → ℕ → Verdict → Deadlines → Deadlines
 counted_by t now Stays d = d
-counted_by t now Ping d = record d { silence = record d.silence { pings = d.silence.pings + 1 } }
+counted_by t now Ping d = record d { silence = record (pinged d.silence) { heard_at = counted_from (pinged d.silence) now t.silent } }
 counted_by t now Tries d = record d { tries = tries_by t.slow_reader d.waits_since now }
 counted_by t now Idle d = d
 counted_by t now Stuck d = record d { stuck_since = kept_waiting d.stuck_since now }

@@ -1,7 +1,7 @@
 //! How long a connection is waited for. What is counted are the units of the loop's clock, in which the times are given too.
 
 ghost use Rattle.std.specs.Prelude.{◌≡◌, ◌-◌, None, cond};
-ghost use Rattle.server_loop.specs.Deadlines.{counted_by, has_lasted, kept_waiting, ping_of, slow_verdict, steps_in, tries_by, verdict_of, verdict_talking};
+ghost use Rattle.server_loop.specs.Deadlines.{counted_by, counted_from, has_lasted, kept_waiting, ping_of, slow_verdict, steps_in, tries_by, verdict_of, verdict_talking};
 ghost use Rattle.server_loop.specs.declared.deadlines.Verdict.TheVariants.{Gone, Stays};
 
 use crate::silence::{MOST_PINGS, Silence};
@@ -232,7 +232,20 @@ impl Deadlines {
             return Verdict::Stays;
         }
         self.silence.pings += 1;
+        self.silence.heard_at = counted_from(&self.silence, now, times.silent);
         Verdict::Ping
+    }
+}
+
+/// Since when a silence counts, of one that is sent its last ping now. Each ping has a whole time of silence before the next thing is done:
+/// one that comes late, since output waited or the program was suspended, is waited for as long as any other.
+fn counted_from(silence: &Silence, now: u64, silent: u64) -> u64
+    ensures { result ≡ counted_from silence.now now silent }
+{
+    if silence.pings < steps_in(now.saturating_sub(silence.heard_at), silent) {
+        now.saturating_sub(silence.pings.saturating_mul(silent))
+    } else {
+        silence.heard_at
     }
 }
 

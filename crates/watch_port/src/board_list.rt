@@ -16,7 +16,7 @@ pub(crate) struct BoardList {
     pub(crate) changes: u64,
     /// The keys of those that watch all boards.
     pub(crate) spectators: IndexSet<usize>,
-    /// The number of the last change of which they were told. It is 0 if one of them has not been sent it yet.
+    /// The number of the last change of which they were told. It is 0 if one of them that was not is sent it with the others.
     pub(crate) told: u64,
 }
 
@@ -60,17 +60,24 @@ impl BoardList {
         if self.spectators.is_empty() {
             return Ok(());
         }
-        let mut made = Ok(());
-        for at in 0..boards.len() {
-            if made.is_ok() {
-                made = self.make_text(at, boards, now);
-            }
-        }
+        let made = self.make_texts(boards, now);
         if self.told != self.changes {
             untold.extend_from_slice(self.spectators.as_slice())?;
             self.told = self.changes;
         }
         made
+    }
+
+    /// Adds the boards that were opened, and makes the texts that are due again.
+    ///
+    /// # Errors
+    ///
+    /// There was no memory. The next call does what is missing.
+    pub(crate) fn make_texts(&mut self, boards: &BoardTable, now: u64) -> Result<(), AllocError> {
+        for at in 0..boards.len() {
+            self.make_text(at, boards, now)?;
+        }
+        Ok(())
     }
 
     /// Makes the text of the board of this index, if there is none yet or it is due again.

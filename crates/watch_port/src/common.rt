@@ -129,7 +129,9 @@ impl<'a> Common<'a> {
         self.take_in_events();
         client.connection.doing = Doing::WatchesAll(0);
         self.list.spectators.insert(client.key)?;
-        self.look_for_changes()
+        // The others are told at the end of the turn, of all that has changed by then.
+        let now = self.now();
+        self.list.make_texts(&self.boards, now)
     }
 
     /// A client no longer watches anything.

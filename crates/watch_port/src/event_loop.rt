@@ -103,7 +103,7 @@ struct Turns<'a> {
     reserve: Reserve,
     /// Whether there may be newcomers that the system does not report again.
     has_newcomers: bool,
-    /// Everything that clients had sent by this second has been heard, or is reported in this turn.
+    /// Everything that clients had sent by this second has been heard, or is reported in this turn, but for those that are not heard now.
     heard_by: u64,
     /// The second by which clients were last looked at, once a second.
     looked_at: u64,
@@ -130,7 +130,7 @@ impl<'a> Turns<'a> {
         let began = self.clients.common.now();
         // This comes before looking: whoever wakes the loop from now on wakes it again.
         poller.waker().reset();
-        // The boards have ended if the port closes, so what is told then is the last.
+        // Once the port closes no board changes any more, so what is told then is the last.
         let is_closing = self.clients.common.port.is_closing();
         self.clients.common.take_in_events();
         self.clients.hear_unread();

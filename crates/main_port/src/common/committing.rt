@@ -31,6 +31,7 @@ impl<'a, R: Wait + Clock, W: Watchers> Common<'a, R, W> {
         ensures settled { result ≡ is_settled self.new.service }
         ensures service { self.new.service.service ≡ self.old.service.service }
         ensures failed { result ≡ false → is_some self.new.journal_failure ≡ true }
+        ensures once { is_some self.old.journal_failure ≡ true → self.new.service ≡ self.old.service }
         ensures first { IfSome self.old.journal_failure (λ failure. self.new.journal_failure ≡ Some failure) }
     {
         if self.service.is_settled() {

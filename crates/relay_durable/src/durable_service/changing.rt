@@ -7,6 +7,7 @@ ghost use Rattle.relay_frames.specs.declared.output.TheConstants.{MOST_OUTPUT};
 ghost use Rattle.relay_hall.specs.Runs.{Ends, Shuts, Time};
 ghost use Rattle.relay_service.specs.Calls.{AnswersAt, DisconnectsAt, FailsAt, LeavesAt, Loses, Passes, PushFailsAt, PushesAt, PutsAt, ReceivesAt, Replaces, SendsAt};
 ghost use Rattle.relay_service.specs.Record.{opened};
+ghost use Rattle.relay_durable.specs.Record.{has_failed};
 
 use crate::durable_service::{DurableService, note};
 use chained_lines::StableStorage;
@@ -52,6 +53,7 @@ impl<S: StableStorage> DurableService<S> {
         ensures ok { IfOk result (λ some. AnswersAt self.old.service number some self.new.service) }
         ensures err { OnErr result (FailsAt self.old.service number self.new.service) }
         ensures journal { is_some self.new.scribe ≡ is_some self.old.scribe }
+        ensures silent { has_failed self.old ≡ true → self.new.scribe ≡ self.old.scribe }
     {
         one_step_at_most();
         let answered = self.service.answer(number);
@@ -123,6 +125,7 @@ impl<S: StableStorage> DurableService<S> {
     pub fn leave(&mut self, number: u64)
         ensures left { LeavesAt self.old.service number self.new.service }
         ensures journal { is_some self.new.scribe ≡ is_some self.old.scribe }
+        ensures silent { has_failed self.old ≡ true → self.new.scribe ≡ self.old.scribe }
     {
         self.service.leave(number);
         note(self.alloc, &mut self.scribe, self.service.hall());
@@ -132,6 +135,7 @@ impl<S: StableStorage> DurableService<S> {
     pub fn disconnect(&mut self, number: u64)
         ensures gone { DisconnectsAt self.old.service number self.new.service }
         ensures journal { is_some self.new.scribe ≡ is_some self.old.scribe }
+        ensures silent { has_failed self.old ≡ true → self.new.scribe ≡ self.old.scribe }
     {
         self.service.disconnect(number);
         note(self.alloc, &mut self.scribe, self.service.hall());
@@ -141,6 +145,7 @@ impl<S: StableStorage> DurableService<S> {
     pub fn tick(&mut self, millis: u64)
         ensures passed { Passes self.old.service (Time millis) self.new.service }
         ensures journal { is_some self.new.scribe ≡ is_some self.old.scribe }
+        ensures silent { has_failed self.old ≡ true → self.new.scribe ≡ self.old.scribe }
     {
         self.service.tick(millis);
         note(self.alloc, &mut self.scribe, self.service.hall());
@@ -150,6 +155,7 @@ impl<S: StableStorage> DurableService<S> {
     pub fn shut(&mut self)
         ensures passed { Passes self.old.service Shuts self.new.service }
         ensures journal { is_some self.new.scribe ≡ is_some self.old.scribe }
+        ensures silent { has_failed self.old ≡ true → self.new.scribe ≡ self.old.scribe }
     {
         self.service.shut();
         note(self.alloc, &mut self.scribe, self.service.hall());
@@ -159,6 +165,7 @@ impl<S: StableStorage> DurableService<S> {
     pub fn end_all(&mut self)
         ensures passed { Passes (record self.old.service { is_ending = true }) Ends self.new.service }
         ensures journal { is_some self.new.scribe ≡ is_some self.old.scribe }
+        ensures silent { has_failed self.old ≡ true → self.new.scribe ≡ self.old.scribe }
     {
         self.service.end_all();
         note(self.alloc, &mut self.scribe, self.service.hall());

@@ -24,6 +24,10 @@ impl<'a> Common<'a> {
         let mut was_last = false;
         client.is_unread = false;
         self.answer(client)?;
+        if !client.connection.peer.is_midway() {
+            // What was left of its last turn was whole.
+            client.deadlines.silence.owes_no_rest();
+        }
         for _ in 0..MOST_PIECES {
             if client.is_deaf() || was_last {
                 return self.send(client);

@@ -11,7 +11,7 @@ use std::alloc::AllocError;
 impl<'a> Common<'a> {
     /// Writes to a client what is due, as far as its connection takes it.
     pub(super) fn send(&mut self, client: &mut Client) -> Result<(), Gone> {
-        // Without memory for them, changes are due again at the end of the turn.
+        // Without memory for them, changes are due again with those of the others.
         let _ = self.put_changes(client, false);
         if client.is_draining {
             return Ok(());
@@ -21,12 +21,13 @@ impl<'a> Common<'a> {
         match client.send(tape, now) {
             Delivery::Failed => return Err(Gone),
             Delivery::Blocked => {}
-            Delivery::All if client.connection.is_done(tape) => {
-                client.drains(now);
-                self.watches_no_more(client);
-            }
             Delivery::All => {
-                self.tells_on(client);
+                if client.connection.is_done(tape) {
+                    client.drains(now);
+                    self.watches_no_more(client);
+                } else {
+                    self.tells_on(client);
+                }
                 self.reads_on(client)?;
             }
         }
@@ -42,12 +43,13 @@ impl<'a> Common<'a> {
     }
 
     /// Puts the changes of the boards into the output of a client that watches them all, if everything before is written. So a client whose
-    /// connection takes it slowly is not sent what is out of date. The last ones are put there in any case.
+    /// connection takes it slowly is not sent what is out of date. The last ones are put there in any case, but never behind a close.
     fn put_changes(&self, client: &mut Client, are_last: bool) -> Result<(), AllocError> {
         let changes = self.list.changes;
         let connection = &mut client.connection;
         if let Doing::WatchesAll(told) = connection.doing {
-            if told != changes && (are_last || connection.has_no_output()) {
+            let may_add = are_last && !connection.is_leaving || connection.has_no_output();
+            if told != changes && may_add {
                 self.list.put_changes(told, &mut connection.output)?;
                 connection.doing = Doing::WatchesAll(changes);
             }
@@ -55,7 +57,7 @@ impl<'a> Common<'a> {
         Ok(())
     }
 
-    /// At the end of the turn, sends a client that watches all boards and was sent everything what has changed while that was written.
+    /// A client that watches all boards and was sent everything is sent with the others what has changed while that was written.
     fn tells_on(&mut self, client: &Client) {
         if let Doing::WatchesAll(told) = client.connection.doing {
             if told != self.list.changes {
