@@ -557,6 +557,18 @@ class Floods(unittest.TestCase):
             self.reads(peer.stream, 2000)
             peer.close()
 
+    def test_a_ping_behind_what_asks_for_all_boards_is_answered_and_is_not_half_a_message(self):
+        """In one piece with it. There are no boards yet, so nothing has to be sent before."""
+        with Server("--forever", watch=True) as server:
+            peer = Connection(server.watch_port)
+            peer.stream.sendall(frame("[]") + frame(BOARDS) + ONE_PING)
+            peer.hears(NOT_OBJECT)
+            self.assertEqual(peer.exactly(len(ONE_PONG)), ONE_PONG)
+            time.sleep(14)
+            peer.stream.sendall(ONE_PING)
+            self.assertEqual(peer.exactly(len(ONE_PONG)), ONE_PONG)
+            peer.close()
+
     def test_what_answers_took_is_given_back(self):
         """Each of a crowd keeps far less than a loop may keep for one that does not read."""
         with Server("--forever", "--watch-threads", "1", watch=True) as server:
@@ -693,6 +705,21 @@ class Deadlines(unittest.TestCase):
                 took, began = time.monotonic() - began, time.monotonic()
                 self.assertTrue(28 < took < 31 + SOON, took)
                 watcher.stream.sendall(pong())
+            close_all(owner, watcher)
+
+    def test_a_ping_that_comes_late_is_waited_for_as_any_other(self):
+        """On both ports. The server stood still for as long as a silence may last in all."""
+        with Server("--forever", watch=True) as server:
+            owner = owner_of(server)
+            watcher = watcher_of(server)
+            with Stopped(server):
+                time.sleep(92)
+            for peer in owner, watcher:
+                self.assertEqual(peer.receive_any(), "ping")
+            time.sleep(5)
+            for peer in owner, watcher:
+                peer.stream.sendall(pong())
+            watcher.hears(*play(owner, MOVES))
             close_all(owner, watcher)
 
     def test_messages_without_a_pause_between_them_have_no_deadline_together(self):
