@@ -115,7 +115,7 @@ impl<'a> Acceptor<'a> {
         }
     }
 
-    /// Lets in whoever came. Each that came was met, also one that was turned away or could not be accepted: another try comes later.
+    /// Lets in whoever came. Each that came was met, also one that was turned away, and so was each try that failed: another comes later.
     fn lets_in<R: Wait + Clock, W: Watchers>(
         &mut self,
         arrival: Arrival,

@@ -84,7 +84,8 @@ impl MainPort {
     /// have not had, the other peers are told by the close code 1001, and four seconds later it stops waiting for anybody.
     ///
     /// With a journal no answer is written, and nobody who watches is told anything, before all that boards have is on the disk. At its end
-    /// serving leaves the boards as they are: all peers are told by the close code 1001, and games go on at the next start.
+    /// serving ends no board to which an operator can come back. All peers are told by the close code 1001, and these games go on at the
+    /// next start.
     ///
     /// # Errors
     ///

@@ -5,6 +5,6 @@
 pub struct ServeEnd {
     /// How many connections were served.
     pub served: u32,
-    /// How many could not be accepted, or were turned away for lack of a descriptor.
+    /// How many were turned away for lack of a descriptor, and how many tries to accept failed.
     pub failed: u32,
 }

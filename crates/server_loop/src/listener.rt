@@ -46,6 +46,10 @@ impl Reserve {
     /// Accepts the next newcomer of this listener, which does not wait. If there is no descriptor for it, the one in reserve is given up.
     /// Once the newcomer has come, there may be one again, and then there is room for it.
     pub fn accept(&mut self, listener: &TcpListener) -> Arrival {
+        if self.spare.is_none() {
+            // Another thread was given it, or the system had none.
+            self.spare = listener.try_clone().ok();
+        }
         match listener.accept() {
             Ok((stream, _)) => return welcomed(stream),
             Err(error) if is_nobody(&error) => return Arrival::Nobody,

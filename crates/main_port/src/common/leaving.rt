@@ -44,6 +44,7 @@ impl<'a, R: Wait + Clock, W: Watchers> Common<'a, R, W> {
 
     /// The output of a connection has ended. It goes, unless something has yet to be sent to it.
     pub(super) fn hears_the_end(&mut self, client: &mut Client) -> Result<(), Ends> {
+        self.tell_watchers();
         self.send(client)?;
         if !client.is_blocked() || matches!(client.state, State::Drains(_)) {
             return Err(Ends::Gone);
@@ -65,7 +66,7 @@ impl<'a, R: Wait + Clock, W: Watchers> Common<'a, R, W> {
 
     /// A connection goes, and is none any more.
     pub(crate) fn lets_go(&mut self, mut client: Client, why: Ends) {
-        if why == Ends::OutOfMemory && self.commits() {
+        if why == Ends::OutOfMemory && self.tell_watchers() {
             let _ = send_to(&client, &mut self.service);
         }
         if client.state == State::Comes {
