@@ -125,3 +125,23 @@ class Connections(unittest.TestCase):
                 peer.close()
             time.sleep(0.5)
             Connection(server.port).asks("[]", NOT_OBJECT)
+
+    def test_newcomers_without_a_descriptor_are_told_so_though_there_was_none_in_reserve_for_a_while(self):
+        """The system has fewer descriptors for a moment, so that the one in reserve is lost. Before, it was not taken back, and whoever
+        came behind that waited without an answer."""
+        with Server("--forever") as server:
+            resource.prlimit(server.process.pid, resource.RLIMIT_NOFILE, (16, 16))
+            peers = [socket.create_connection(("127.0.0.1", server.port), timeout=PATIENCE) for _ in range(16)]
+            time.sleep(0.5)
+            resource.prlimit(server.process.pid, resource.RLIMIT_NOFILE, (3, 16))
+            peers.append(socket.create_connection(("127.0.0.1", server.port), timeout=PATIENCE))
+            time.sleep(0.5)
+            resource.prlimit(server.process.pid, resource.RLIMIT_NOFILE, (16, 16))
+            time.sleep(0.5)
+            for _ in range(2):
+                # After ten seconds those go that have sent no request.
+                peers.append(socket.create_connection(("127.0.0.1", server.port), timeout=5))
+                peers[-1].sendall(request())
+                self.assertEqual(peers[-1].recv(9), b"HTTP/1.1 ")
+            for peer in peers:
+                peer.close()
