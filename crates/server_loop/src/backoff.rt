@@ -56,15 +56,21 @@ impl Backoff {
         }
     }
 
-    /// A connection pauses until this millisecond.
+    /// A connection pauses from this millisecond on, in which it has been refused to follow this many times since it was last read.
     ///
     /// # Errors
     ///
     /// There was no memory.
-    pub fn add(&mut self, key: u64, until: u64) -> Result<(), AllocError>
-        ensures ok { OnOk result (self.new ≡ self.old ++ (record { key = key; until = until }) ∷ []) }
+    pub fn add(&mut self, key: u64, now: u64, refused: u32) -> Result<(), AllocError>
+        ensures ok { OnOk result (self.new ≡ self.old ++ (record { key = key; until = end_of (start_of now key) refused }) ∷ []) }
         ensures err { OnErr result (self.new ≡ self.old) }
     {
+        // Some begin later than others. Else the pauses of a crowd that asks again and again would all be over at once, and its answers would
+        // keep the processors for that long.
+        let since = now.saturating_add(key % SPREAD_MILLIS);
+        let pause = (u64::from(refused) * PAUSE_MILLIS).min(MOST_PAUSE_MILLIS);
+        // The millisecond that had begun does not count.
+        let until = since.saturating_add(pause).saturating_add(1);
         self.pauses.push(Pause { key, until })?;
         self.next = self.next.min(until);
         Ok(())
@@ -117,21 +123,4 @@ fn earliest(pauses: &[Pause]) -> u64
         least = least.min(pause.until);
     }
     least
-}
-
-/// When a connection with this key begins to pause that was refused in this millisecond: some later than others. Else the pauses of a
-/// crowd that asks again and again would all be over at once, and its answers would keep the processors for that long.
-pub fn start_of_pause(now: u64, key: u64) -> u64
-    ensures { result ≡ start_of now key }
-{
-    now.saturating_add(key % SPREAD_MILLIS)
-}
-
-/// When a pause is over that began in this millisecond, after this many refused commands to follow. The millisecond that had begun does not
-/// count.
-pub fn end_of_pause(since: u64, refused: u32) -> u64
-    ensures { result ≡ end_of since refused }
-{
-    let pause = (u64::from(refused) * PAUSE_MILLIS).min(MOST_PAUSE_MILLIS);
-    since.saturating_add(pause).saturating_add(1)
 }

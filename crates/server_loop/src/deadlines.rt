@@ -1,8 +1,7 @@
 //! How long a connection is waited for. What is counted are the units of the loop's clock, in which the times are given too.
 
-ghost use Rattle.std.specs.Prelude.{◌≡◌, ◌-◌, None, cond};
+ghost use Rattle.std.specs.Prelude.{◌≡◌, ◌-◌, None};
 ghost use Rattle.server_loop.specs.Deadlines.{counted_by, counted_from, has_lasted, kept_waiting, ping_of, slow_verdict, steps_in, tries_by, verdict_of, verdict_talking};
-ghost use Rattle.server_loop.specs.declared.deadlines.Verdict.TheVariants.{Gone, Stays};
 
 use crate::silence::{MOST_PINGS, Silence};
 
@@ -169,12 +168,17 @@ impl Deadlines {
         ensures verdict { result ≡ verdict_of times.now self.old now stage most_idle }
         ensures counted { self.new ≡ counted_by times.now now result self.old }
     {
-        match stage {
-            Stage::Comes => gone_if(self.staged(now) >= times.request),
-            Stage::Drains => gone_if(self.staged(now) >= times.leaving),
-            Stage::Leaves => gone_if(is_over(self.waits_since, now, times.wait)),
-            Stage::Asks => self.verdict_if_it_talks(times, now, most_idle),
-            Stage::Follows => self.verdict_if_it_talks(times, now, None),
+        let is_gone = match stage {
+            Stage::Comes => self.staged(now) >= times.request,
+            Stage::Drains => self.staged(now) >= times.leaving,
+            Stage::Leaves => is_over(self.waits_since, now, times.wait),
+            Stage::Asks => return self.verdict_if_it_talks(times, now, most_idle),
+            Stage::Follows => return self.verdict_if_it_talks(times, now, None),
+        };
+        if is_gone {
+            Verdict::Gone
+        } else {
+            Verdict::Stays
         }
     }
 
@@ -273,16 +277,5 @@ fn is_over(since: Option<u64>, now: u64, most: u64) -> bool
     match since {
         Some(since) => now.saturating_sub(since) >= most,
         None => false,
-    }
-}
-
-/// What is to be done with one whose time may be over.
-fn gone_if(is_over: bool) -> Verdict
-    ensures { result ≡ cond is_over Gone Stays }
-{
-    if is_over {
-        Verdict::Gone
-    } else {
-        Verdict::Stays
     }
 }

@@ -15,15 +15,15 @@ mod silence;
 mod socket;
 mod waker;
 
-pub use backoff::{Backoff, Pause, end_of_pause, start_of_pause};
+pub use backoff::{Backoff, Pause};
 pub use clock::LoopClock;
 pub use deadlines::{Deadlines, SlowReader, Stage, Times, Verdict};
 pub use input::watch_input;
-pub use listener::{Arrival, Listener, Reserve};
+pub use listener::{Arrival, Listener, MOST_NEWCOMERS, Reserve};
 pub use log_line::LogLine;
 pub use log_thread::{Counts, Log};
 pub use poller::{LISTENER, MOST_EVENTS, Poller, WAKER};
 pub use run_queue::{Rank, RunQueue};
 pub use silence::Silence;
-pub use socket::{Delivery, Intake, Written, receive, send, write_once};
+pub use socket::{Delivery, Intake, MOST_PIECES, PIECE_BYTES, Written, receive, send, write_once};
 pub use waker::LoopWaker;

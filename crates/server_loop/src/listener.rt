@@ -12,8 +12,11 @@ use std::{io, net};
 const NO_ROOM: &[u8] =
     b"HTTP/1.1 503 Service Unavailable\r\nConnection: close\r\nContent-Length: 0\r\n\r\n";
 
+/// How many newcomers a loop accepts at most before the others have their turn.
+pub const MOST_NEWCOMERS: usize = 64;
+
 /// In how many pieces the request of a newcomer that is turned away is read.
-const MOST_PIECES: u32 = 16;
+const MOST_PIECES_OF_REQUEST: u32 = 16;
 
 /// The result of an accept.
 #[derive(Drop)]
@@ -59,20 +62,15 @@ impl Reserve {
         let met = listener.accept();
         self.spare = listener.try_clone().ok();
         match met {
-            Ok((stream, _)) => self.receive(listener, stream),
+            Ok((stream, _)) if self.spare.is_some() => welcomed(stream),
+            Ok((stream, _)) => {
+                turn_away(stream);
+                self.spare = listener.try_clone().ok();
+                Arrival::TurnedAway
+            }
             Err(error) if is_nobody(&error) => Arrival::Nobody,
             Err(_) => Arrival::Failed,
         }
-    }
-
-    /// Receives a newcomer that has the descriptor which was in reserve.
-    fn receive(&mut self, listener: &TcpListener, stream: net::TcpStream) -> Arrival {
-        if self.spare.is_some() {
-            return welcomed(stream);
-        }
-        turn_away(stream);
-        self.spare = listener.try_clone().ok();
-        Arrival::TurnedAway
     }
 }
 
@@ -124,7 +122,7 @@ fn turn_away(mut stream: net::TcpStream) {
         return;
     }
     let mut bytes = [0; 1024];
-    for _ in 0..MOST_PIECES {
+    for _ in 0..MOST_PIECES_OF_REQUEST {
         match stream.read(&mut bytes) {
             Ok(0) | Err(_) => break,
             Ok(_) => {}

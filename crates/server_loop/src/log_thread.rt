@@ -5,7 +5,7 @@ use log::sink::Console;
 use log::{Level, Logged, info};
 use std::alloc::{AllocError, Global};
 use std::mem;
-use std::sync::atomic::{AtomicBool, AtomicU32, AtomicU64, Ordering};
+use std::sync::atomic::{AtomicBool, AtomicU32, Ordering};
 use std::sync::{Arc, Condvar, Mutex, Wait};
 use std::thread::{Builder, JoinHandle, Threads};
 use std::time::{Clock, Duration, Instant};
@@ -20,20 +20,18 @@ const BETWEEN_COUNTS_SECONDS: u64 = 60;
 const STACK_BYTES: usize = 256 * 1024;
 
 /// What the lines of counts tell.
-#[derive(Drop)]
+#[derive(Clone, Copy, Default)]
 pub struct Counts {
     /// How many connections there are.
-    pub connections: AtomicU64,
+    pub connections: u64,
     /// How many of them follow a board.
-    pub followers: AtomicU64,
+    pub followers: u64,
     /// How many boards there are.
-    pub boards: AtomicU64,
+    pub boards: u64,
     /// How many games have ended.
-    pub ended: AtomicU64,
+    pub ended: u64,
     /// How many followers were cut off.
-    pub cut: AtomicU64,
-    /// How many connections the watch port has, if there is one.
-    watching: Option<Arc<AtomicU32, Global>>,
+    pub cut: u64,
 }
 
 /// Lines that wait to be written.
@@ -83,7 +81,9 @@ struct Shared {
     noted: Condvar,
     /// Whether the last line of a connection that was turned away has yet to be written.
     is_short: AtomicBool,
-    counts: Counts,
+    counts: Mutex<Counts>,
+    /// How many connections the watch port has, if there is one.
+    watching: Option<Arc<AtomicU32, Global>>,
 }
 
 impl Shared {
@@ -132,14 +132,8 @@ impl Log {
             lines: Mutex::new(Lines::new(alloc)),
             noted: Condvar::new(),
             is_short: AtomicBool::new(false),
-            counts: Counts {
-                connections: AtomicU64::new(0),
-                followers: AtomicU64::new(0),
-                boards: AtomicU64::new(0),
-                ended: AtomicU64::new(0),
-                cut: AtomicU64::new(0),
-                watching,
-            },
+            counts: Mutex::new(Counts::default()),
+            watching,
         };
         let shared = Arc::new(alloc, shared)?;
         let thread = spawn(rt, &shared);
@@ -151,9 +145,9 @@ impl Log {
         self.shared.is_kept
     }
 
-    /// What the lines of counts tell.
-    pub fn counts(&self) -> &Counts {
-        &self.shared.counts
+    /// What the lines of counts tell from now on.
+    pub fn counts<R: Wait>(&self, rt: &R, counts: Counts) {
+        *self.shared.counts.lock(rt) = counts;
     }
 
     /// Has a line written, if there is a log or it is reported in any case. That a connection was turned away is not reported while the
@@ -208,7 +202,7 @@ fn run<R: Wait + Clock + Eprint>(rt: &R, shared: &Shared) {
             return;
         }
         if until_counts(rt, shared, counted_at) == Some(Duration::ZERO) {
-            write_counts(rt, &shared.counts);
+            write_counts(rt, shared);
             counted_at = Instant::now(rt).ok();
         }
     }
@@ -247,15 +241,12 @@ fn write_lines<R: Eprint>(rt: &R, shared: &Shared, lines: &Lines) {
 }
 
 /// Writes how many connections and boards there are.
-fn write_counts<R: Eprint>(rt: &R, counts: &Counts) {
-    let connections = counts.connections.load(Ordering::SeqCst);
-    let boards = counts.boards.load(Ordering::SeqCst);
-    let ended = counts.ended.load(Ordering::SeqCst);
-    let followers = counts.followers.load(Ordering::SeqCst);
-    let cut = counts.cut.load(Ordering::SeqCst);
+fn write_counts<R: Wait + Eprint>(rt: &R, shared: &Shared) {
+    let now = *shared.counts.lock(rt);
     let log = Logged::new(rt, Level::Info, Console(rt));
-    info!(log; target: "relay960", "connections {connections}, boards {boards}, ended {ended}, followers {followers}, cut off {cut}");
-    if let Some(watching) = &counts.watching {
+    info!(log; target: "relay960", "connections {}, boards {}, ended {}, followers {}, cut off {}",
+        now.connections, now.boards, now.ended, now.followers, now.cut);
+    if let Some(watching) = &shared.watching {
         let watching = watching.load(Ordering::SeqCst);
         info!(log; target: "relay960", "connections of the watch port {watching}");
     }

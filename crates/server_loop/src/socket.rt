@@ -7,6 +7,12 @@ use mio::net::TcpStream;
 use std::io;
 use std::io::{ErrorKind, IoSlice, Read, Write};
 
+/// How many pieces of what a connection sends are read before the others have their turn.
+pub const MOST_PIECES: u32 = 4;
+
+/// How many bytes a piece has.
+pub const PIECE_BYTES: usize = 4096;
+
 /// What came from a connection.
 #[derive(Clone, Copy, PartialEq, Eq)]
 pub enum Intake {
