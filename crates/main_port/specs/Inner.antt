@@ -1,20 +1,12 @@
--- What a tally and an acceptor show of their fields, and what is kept true of them.
+-- What an acceptor shows of its fields, and what is kept true of them.
 use Rattle.std.specs.Prelude.{◌≡◌, ◌≤◌, false, true, is_some}
-use Rattle.main_port.specs.declared.acceptor.Acceptor.TheInside.{Inside as AcceptorInside}
-use Rattle.main_port.specs.declared.tally.Tally.TheInside.{Inside as TallyInside}
-use Rattle.main_port.specs.Meeting.{AcceptorRecord, TallyRecord, is_full, most_of}
+use Rattle.main_port.specs.declared.acceptor.Acceptor.TheInside.{Inside}
+use Rattle.main_port.specs.Meeting.{AcceptorRecord, is_full, met_of, most_of}
 
-abbrev pub tally_of : TallyInside → TallyRecord
-tally_of a = record { met = a.met; failed = a.failed; most = a.most }
+abbrev pub acceptor_of : Inside → AcceptorRecord
+acceptor_of a = record { met = a.met; most = a.most; is_open = is_some a.listener; may_end = a.may_end }
 
--- no more were met than may be, and no more failed than were met
-pub record IsTally (a : TallyInside) : Type 0 where
-  pub few : a.met ≤ most_of a.most
-  pub failed : a.failed ≤ a.met
-
-abbrev pub acceptor_of : AcceptorInside → AcceptorRecord
-acceptor_of a = record { tally = a.tally; is_open = is_some a.listener; may_end = a.may_end }
-
--- the listener is closed only when the last has come that may, or where serving may end before
-abbrev pub IsAcceptor : AcceptorInside → Type 0
-IsAcceptor a = is_some a.listener ≡ false → a.may_end ≡ false → is_full a.tally ≡ true
+-- no more were met than may be, and the listener is closed only when the last has come that may, or where serving may end before
+pub record IsAcceptor (a : Inside) : Type 0 where
+  pub few : met_of (acceptor_of a) ≤ most_of a.most
+  pub open : is_some a.listener ≡ false → a.may_end ≡ false → is_full (acceptor_of a) ≡ true

@@ -1,21 +1,18 @@
 //! Where newcomers come in, and how many were met.
 
 ghost use Rattle.std.specs.Prelude.{◌≡◌, ◌≤◌, ◌+◌, IfSome, false, true, not};
-ghost use Rattle.main_port.specs.Meeting.{OnlyMeets, failed_one, is_full, met_by, none_met};
+ghost use Rattle.main_port.specs.Meeting.{OnlyMeets, is_full, met_by, met_of, met_one, none_met};
 
 use crate::clients::Clients;
 use crate::serve_end::ServeEnd;
 use crate::settings::Settings;
-use crate::tally::Tally;
 use crate::watchers::Watchers;
-use server_loop::{Arrival, Listener, Log, LogLine};
+use mio::Registry;
+use server_loop::{Arrival, Listener, Log, LogLine, MOST_NEWCOMERS};
 use std::marker::Model;
 use std::sync::Wait;
 use std::sync::atomic::{AtomicBool, Ordering};
 use std::time::Clock;
-
-/// How many newcomers are accepted at most before the others have their turn.
-const MOST_NEWCOMERS: usize = 64;
 
 /// How many milliseconds after an accept that failed another one is tried.
 const RETRY_MILLIS: u64 = 20;
@@ -25,7 +22,9 @@ const RETRY_MILLIS: u64 = 20;
 pub(crate) struct Acceptor<'a> {
     /// Where newcomers come in, as long as any may.
     listener: Option<Listener>,
-    tally: Tally,
+    met: ServeEnd,
+    /// How many may be met, if that is bounded.
+    most: Option<u32>,
     /// Whether serving may end before the last has come.
     may_end: bool,
     /// Whether it is to, if it may.
@@ -61,11 +60,15 @@ impl<'a> Acceptor<'a> {
         has_input_ended: &'a AtomicBool,
         log: &'a Log,
     ) -> Acceptor<'a>
-        ensures { result ≡ record { tally = none_met settings.now.most; is_open = true; may_end = settings.now.until_input_ends } }
+        ensures { result ≡ none_met settings.now.most settings.now.until_input_ends }
     {
         Acceptor {
             listener: Some(listener),
-            tally: Tally::new(settings.most),
+            met: ServeEnd {
+                served: 0,
+                failed: 0,
+            },
+            most: settings.most,
             may_end: settings.until_input_ends,
             has_input_ended,
             log,
@@ -78,7 +81,7 @@ impl<'a> Acceptor<'a> {
 
     /// In how many milliseconds newcomers are accepted that may be waiting, if any may come.
     pub(crate) fn accepts_in(&self, now: u64) -> Option<u64> {
-        let may_come = self.has_newcomers && self.listener.is_some() && !self.tally.is_full();
+        let may_come = self.has_newcomers && self.listener.is_some() && !self.is_full();
         may_come.then_some(self.opens_at.saturating_sub(now))
     }
 
@@ -98,6 +101,7 @@ impl<'a> Acceptor<'a> {
     pub(crate) fn accept<R: Wait + Clock, W: Watchers>(
         &mut self,
         clients: &mut Clients<'_, R, W>,
+        registry: &Registry,
         told: usize,
     )
         ensures { OnlyMeets self.old self.new }
@@ -108,7 +112,7 @@ impl<'a> Acceptor<'a> {
                 return;
             }
             let arrival = self.next();
-            self.lets_in(arrival, clients);
+            self.lets_in(arrival, clients, registry);
             if clients.common.is_late(until) {
                 return;
             }
@@ -120,9 +124,10 @@ impl<'a> Acceptor<'a> {
         &mut self,
         arrival: Arrival,
         clients: &mut Clients<'_, R, W>,
+        registry: &Registry,
     )
         ensures rest { OnlyMeets self.old self.new }
-        ensures met { self.new.tally.met ≡ met_by arrival self.old.tally }
+        ensures met { met_of self.new ≡ met_by arrival self.old }
     {
         let is_in = match arrival {
             Arrival::Nobody => {
@@ -131,7 +136,7 @@ impl<'a> Acceptor<'a> {
             }
             Arrival::Newcomer(stream) => {
                 self.heard_from = clients.now().saturating_add(1);
-                clients.enters(stream)
+                clients.enters(stream, registry)
             }
             Arrival::TurnedAway => false,
             Arrival::Failed => {
@@ -139,11 +144,25 @@ impl<'a> Acceptor<'a> {
                 false
             }
         };
-        self.tally.meet();
+        self.meets(is_in);
+        // One that is turned away is reported on standard error, unless the one before was, too.
+        if !is_in && !self.is_short {
+            self.log.note(clients.common.rt, LogLine::NoRoom);
+        }
+        self.is_short = !is_in;
+    }
+
+    /// One was met, and let in or not, unless as many were as may be.
+    fn meets(&mut self, is_in: bool)
+        ensures { self.new ≡ met_one is_in self.old }
+    {
+        if self.met.served + self.met.failed >= self.most.unwrap_or(u32::MAX) {
+            return;
+        }
         if is_in {
-            self.is_short = false;
+            self.met.served += 1;
         } else {
-            self.fails(clients.common.rt);
+            self.met.failed += 1;
         }
     }
 
@@ -157,15 +176,14 @@ impl<'a> Acceptor<'a> {
         }
     }
 
-    /// A newcomer was turned away. That is reported on standard error, unless the one before was, too.
-    fn fails<R: Wait>(&mut self, rt: &R)
-        ensures { self.new ≡ record self.old { tally = failed_one self.old.tally } }
+    /// Whether the last that may be met has been.
+    fn is_full(&self) -> bool
+        ensures { result ≡ is_full self.now }
     {
-        self.tally.fail();
-        if !self.is_short {
-            self.log.note(rt, LogLine::NoRoom);
+        match self.most {
+            Some(most) => self.met.served + self.met.failed >= most,
+            None => false,
         }
-        self.is_short = true;
     }
 
     /// Whether serving ends before the last has come.
@@ -175,49 +193,29 @@ impl<'a> Acceptor<'a> {
         self.may_end && self.has_input_ended.load(Ordering::SeqCst)
     }
 
-    /// Closes the listener if the last has come that may, or serving ends. Returns whether it is closed.
+    /// Closes the listener if the last has come that may, which is reported, or serving ends. Returns whether it is closed.
     pub(crate) fn closes_if_over<R: Wait>(&mut self, rt: &R) -> bool
         ensures closed { result ≡ not self.new.is_open }
         ensures rest { self.new ≡ record self.old { is_open = self.new.is_open } }
-        ensures full { is_full self.old.tally ≡ true → result ≡ true }
+        ensures full { is_full self.old ≡ true → result ≡ true }
     {
-        if self.listener.is_none() {
-            return true;
+        let is_full = self.is_full();
+        if self.listener.is_some() && (is_full || self.is_ending()) {
+            self.listener = None;
+            match self.most {
+                Some(most) if is_full => self.log.note(rt, LogLine::TheLast(most)),
+                _ => {}
+            }
         }
-        if !self.is_over() {
-            return false;
-        }
-        self.close(rt);
-        true
-    }
-
-    /// Whether the last has come that may, or serving ends.
-    fn is_over(&self) -> bool
-        ensures over { result ≡ true → self.now.may_end ≡ false → is_full self.now.tally ≡ true }
-        ensures full { is_full self.now.tally ≡ true → result ≡ true }
-    {
-        self.tally.is_full() || self.is_ending()
-    }
-
-    /// Closes the listener, and says so if that is because the last has come that may.
-    fn close<R: Wait>(&mut self, rt: &R)
-        requires { self.old.may_end ≡ false → is_full self.old.tally ≡ true }
-        ensures { self.new ≡ record self.old { is_open = false } }
-    {
-        self.listener = None;
-        match self.tally.most() {
-            Some(most) if self.tally.is_full() => self.log.note(rt, LogLine::TheLast(most)),
-            _ => {}
-        }
+        self.listener.is_none()
     }
 
     /// How serving ended.
     pub(crate) fn end(self) -> ServeEnd
-        ensures met { result.served + result.failed ≡ self.entry.tally.met }
-        ensures failed { result.failed ≡ self.entry.tally.failed }
-        ensures most { IfSome self.entry.tally.most (λ n. result.served + result.failed ≤ n) }
-        ensures all { self.entry.is_open ≡ false → self.entry.may_end ≡ false → IfSome self.entry.tally.most (λ n. result.served + result.failed ≡ n) }
+        ensures met { result ≡ self.entry.met }
+        ensures most { IfSome self.entry.most (λ n. result.served + result.failed ≤ n) }
+        ensures all { self.entry.is_open ≡ false → self.entry.may_end ≡ false → IfSome self.entry.most (λ n. result.served + result.failed ≡ n) }
     {
-        self.tally.end()
+        self.met
     }
 }

@@ -2,9 +2,8 @@
 
 use c960_game::MOST_BOARDS;
 use relay_hall::{Hall, Key};
-use server_loop::{Log, LogLine};
+use server_loop::{Counts, Log, LogLine};
 use std::sync::Wait;
-use std::sync::atomic::{AtomicU64, Ordering};
 
 /// How many boards there may be.
 const BOARDS: usize = MOST_BOARDS as usize;
@@ -14,6 +13,7 @@ const BOARDS: usize = MOST_BOARDS as usize;
 pub(crate) struct BoardLog<'a, R> {
     rt: &'a R,
     log: &'a Log,
+    counts: Counts,
     /// Whether the log was told that the board of an index waits for its operator, and not that it is back.
     waits: [bool; BOARDS],
 }
@@ -24,6 +24,7 @@ impl<'a, R: Wait> BoardLog<'a, R> {
         BoardLog {
             rt,
             log,
+            counts: Counts::default(),
             waits: [false; BOARDS],
         }
     }
@@ -36,7 +37,7 @@ impl<'a, R: Wait> BoardLog<'a, R> {
     }
 
     /// The game of the board of this index has changed: if it has ended, that is noted.
-    pub(crate) fn ended(&self, hall: &Hall, at: usize) {
+    pub(crate) fn ended(&mut self, hall: &Hall, at: usize) {
         if !self.log.is_kept() {
             return;
         }
@@ -44,37 +45,29 @@ impl<'a, R: Wait> BoardLog<'a, R> {
             return;
         };
         if let Some(outcome) = shown.outcome() {
-            one_more(&self.log.counts().ended);
+            self.counts.ended = self.counts.ended.saturating_add(1);
             self.log
                 .note(self.rt, LogLine::Ended(shown.name(), outcome));
         }
     }
 
     /// A follower of the board of this index was cut off.
-    pub(crate) fn cut(&self, hall: &Hall, at: usize) {
+    pub(crate) fn cut(&mut self, hall: &Hall, at: usize) {
         if let Some(shown) = hall.board(at) {
-            one_more(&self.log.counts().cut);
+            self.counts.cut = self.counts.cut.saturating_add(1);
             self.log.note(self.rt, LogLine::Cut(shown.name()));
         }
     }
 
-    /// A connection with this key has left: each board of the key whose game goes on is noted, if they wait.
-    pub(crate) fn waits(&mut self, hall: &Hall, key: &Key) {
-        if !self.log.is_kept() || !hall.waits(key) {
-            return;
-        }
-        for at in 0..hall.len() {
-            self.note_own(hall, at, key, true);
-        }
-    }
-
-    /// A connection with this key has come: each board of the key that waited, and whose game goes on, is noted.
-    pub(crate) fn is_back(&mut self, hall: &Hall, key: &Key) {
+    /// A connection with this key has come or left: of each board of the key whose game goes on it is noted that it waits now, or does no
+    /// more.
+    pub(crate) fn came_or_left(&mut self, hall: &Hall, key: &Key) {
         if !self.log.is_kept() {
             return;
         }
+        let waits = hall.waits(key);
         for at in 0..hall.len() {
-            self.note_own(hall, at, key, false);
+            self.note_own(hall, at, key, waits);
         }
     }
 
@@ -99,17 +92,10 @@ impl<'a, R: Wait> BoardLog<'a, R> {
     }
 
     /// So many connections there are, so many of them follow, and so many boards.
-    pub(crate) fn counts(&self, connections: usize, followers: u64, boards: usize) {
-        let counts = self.log.counts();
-        counts
-            .connections
-            .store(connections as u64, Ordering::SeqCst);
-        counts.followers.store(followers, Ordering::SeqCst);
-        counts.boards.store(boards as u64, Ordering::SeqCst);
+    pub(crate) fn counts(&mut self, connections: usize, followers: u64, boards: usize) {
+        self.counts.connections = connections as u64;
+        self.counts.followers = followers;
+        self.counts.boards = boards as u64;
+        self.log.counts(self.rt, self.counts);
     }
-}
-
-/// Counts one more.
-fn one_more(count: &AtomicU64) {
-    count.fetch_add(1, Ordering::SeqCst);
 }

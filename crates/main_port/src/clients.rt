@@ -13,7 +13,6 @@ use indexmap::IndexMap;
 use mio::net::TcpStream;
 use mio::{Interest, Registry, Token};
 use server_loop::Rank;
-use std::io;
 use std::sync::Wait;
 use std::time::Clock;
 
@@ -22,8 +21,6 @@ use std::time::Clock;
 pub(crate) struct Clients<'a, R, W> {
     pub(crate) common: Common<'a, R, W>,
     pub(crate) each: IndexMap<u64, Client>,
-    /// What reports of their sockets.
-    poll: Registry,
     /// Those that were answered, and whose answers have yet to be sent.
     unsent: Vec<u64>,
     /// When they were last looked at, in milliseconds.
@@ -34,34 +31,16 @@ pub(crate) struct Clients<'a, R, W> {
 
 impl<'a, R: Wait + Clock, W: Watchers> Clients<'a, R, W> {
     /// No connections yet.
-    pub(crate) fn new(
-        common: Common<'a, R, W>,
-        poll: Registry,
-        unsent: Vec<u64>,
-    ) -> Clients<'a, R, W>
+    pub(crate) fn new(common: Common<'a, R, W>) -> Clients<'a, R, W>
         ensures { result.common ≡ common.entry }
     {
         Clients {
             each: IndexMap::new(common.alloc),
+            unsent: Vec::new(common.alloc),
             common,
-            poll,
-            unsent,
             looked_at: 0,
             unlooked: 0,
         }
-    }
-
-    /// Why the journal failed, if it has, and those who watch. All connections go, without a frame.
-    pub(crate) fn end(self) -> (Option<io::Error>, W)
-        ensures { result.0 ≡ self.entry.common.journal_failure }
-    {
-        let Clients { common, .. } = self;
-        let Common {
-            journal_failure,
-            watchers,
-            ..
-        } = common;
-        (journal_failure, watchers)
     }
 
     /// The millisecond of the loop's clock.
@@ -71,15 +50,15 @@ impl<'a, R: Wait + Clock, W: Watchers> Clients<'a, R, W> {
 
     // ---- Coming and going.
 
-    /// Adds a newcomer. The system is to report when it may be read and written. Returns whether there was room for it.
-    pub(crate) fn enters(&mut self, stream: TcpStream) -> bool {
+    /// Adds a newcomer. The system is to report, to whom this registers, when it may be read and written. Returns whether there was room.
+    pub(crate) fn enters(&mut self, stream: TcpStream, registry: &Registry) -> bool {
         let Ok(number) = self.common.service.connect() else {
             return false;
         };
         let mut client = Client::new(stream, number, self.now());
         let token = Token(number as usize);
         let interest = Interest::READABLE | Interest::WRITABLE;
-        let registered = self.poll.register(&mut client.stream, token, interest);
+        let registered = registry.register(&mut client.stream, token, interest);
         if registered.is_err() || self.each.insert(number, client).is_err() {
             self.common.service.disconnect(number);
             return false;
@@ -100,7 +79,9 @@ impl<'a, R: Wait + Clock, W: Watchers> Clients<'a, R, W> {
             Ok(()) => {}
             Err(Ends::FarAhead) => {
                 self.spreads_changes();
-                self.stands_due_as(number, Rank::Follower);
+                if let Some(client) = self.each.get_mut(&number) {
+                    self.common.stands_due_as(client, Rank::Follower);
+                }
             }
             Err(why) => self.remove(number, why),
         }

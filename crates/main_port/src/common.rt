@@ -104,7 +104,7 @@ impl<'a, R: Wait + Clock, W: Watchers> Common<'a, R, W> {
             late: Vec::new(alloc),
             coming: 0,
             capacity: u64::from(settings.limits.capacity()),
-            most_idle: settings.most_idle(),
+            most_idle: settings.idle,
             since: 0,
         }
     }

@@ -74,9 +74,9 @@ impl<'a, R: Wait + Clock, W: Watchers> EventLoop<'a, R, W> {
 
     /// Turns until the end. Returns how that was, or why the journal failed, and those who watch.
     pub(crate) fn run(mut self, poller: &mut Poller) -> (io::Result<ServeEnd>, W)
-        ensures most { IfOk result.0 (λ end. IfSome self.entry.acceptor.tally.most (λ n. end.served + end.failed ≤ n)) }
+        ensures most { IfOk result.0 (λ end. IfSome self.entry.acceptor.most (λ n. end.served + end.failed ≤ n)) }
         ensures all { self.entry.acceptor.may_end ≡ false
-            → IfOk result.0 (λ end. IfSome self.entry.acceptor.tally.most (λ n. end.served + end.failed ≡ n)) }
+            → IfOk result.0 (λ end. IfSome self.entry.acceptor.most (λ n. end.served + end.failed ≡ n)) }
         ensures failed { IfErr result.0 (λ error. self.entry.has_journal ≡ true) }
     {
         let rt = self.clients.common.rt;
@@ -170,19 +170,21 @@ impl<'a, R: Wait + Clock, W: Watchers> EventLoop<'a, R, W> {
         poller.waker().reset();
         self.clients.common.clock.look(rt);
         // What the system reports now may have come right after it was asked the time before, or earlier if it left something out then.
-        let report = self.clients.note(poller.events(), self.reported_by);
-        if report.has_newcomers {
+        if self.clients.note(poller.events(), self.reported_by) {
             self.acceptor.looks();
         }
+        let told = poller.events().iter().count();
         self.clients.end_pauses();
         self.clients.serve_all();
-        if report.told < MOST_EVENTS {
+        if told < MOST_EVENTS {
             // The system has reported everything that had arrived when it was asked.
             self.reported_by = asked;
-            self.heard_by = self.heard_by.max(self.clients.heard_by(asked));
+            let since = self.clients.common.queue.since().unwrap_or(asked);
+            self.heard_by = self.heard_by.max(since.min(asked));
         }
         self.tick();
-        self.acceptor.accept(&mut self.clients, report.told);
+        self.acceptor
+            .accept(&mut self.clients, poller.registry(), told);
         // However long a turn took, or the program was suspended, nobody is dropped for what it had sent in time.
         if self.clients.look_around(self.heard_by) {
             // An accept that failed is tried again.
@@ -191,14 +193,7 @@ impl<'a, R: Wait + Clock, W: Watchers> EventLoop<'a, R, W> {
         let is_over = self.ends_if_over();
         // Boards may have ended by themselves since the answers were sent.
         self.clients.common.wake_watchers();
-        is_over || self.has_failed()
-    }
-
-    /// Whether the journal has failed.
-    fn has_failed(&self) -> bool
-        ensures { result ≡ has_failed self.now.has_journal self.now.clients.common.journal_failure }
-    {
-        self.has_journal && self.clients.common.journal_failure.is_some()
+        is_over || self.has_journal && self.clients.common.journal_failure.is_some()
     }
 
     // ---- The end.
@@ -227,28 +222,22 @@ impl<'a, R: Wait + Clock, W: Watchers> EventLoop<'a, R, W> {
         self.clients.each.is_empty() || now >= self.ends_at.unwrap_or(u64::MAX)
     }
 
-    /// How serving ended, or why the journal failed, and those who watch.
+    /// How serving ended, or why the journal failed, and those who watch. All connections go, without a frame.
     fn end(self) -> (io::Result<ServeEnd>, W)
-        ensures met { IfOk result.0 (λ end. end.served + end.failed ≡ self.entry.acceptor.tally.met) }
-        ensures turned_away { IfOk result.0 (λ end. end.failed ≡ self.entry.acceptor.tally.failed) }
-        ensures most { IfOk result.0 (λ end. IfSome self.entry.acceptor.tally.most (λ n. end.served + end.failed ≤ n)) }
+        ensures met { IfOk result.0 (λ end. end ≡ self.entry.acceptor.met) }
+        ensures most { IfOk result.0 (λ end. IfSome self.entry.acceptor.most (λ n. end.served + end.failed ≤ n)) }
         ensures failed { is_err result.0 ≡ has_failed self.entry.has_journal self.entry.clients.common.journal_failure }
         ensures reason { IfErr result.0 (λ error. self.entry.clients.common.journal_failure ≡ Some error) }
         ensures all { (has_failed self.entry.has_journal self.entry.clients.common.journal_failure ≡ false → self.entry.acceptor.is_open ≡ false)
             → self.entry.acceptor.may_end ≡ false
-            → IfOk result.0 (λ end. IfSome self.entry.acceptor.tally.most (λ n. end.served + end.failed ≡ n)) }
+            → IfOk result.0 (λ end. IfSome self.entry.acceptor.most (λ n. end.served + end.failed ≡ n)) }
     {
-        let EventLoop {
-            acceptor,
-            clients,
-            has_journal,
-            ..
-        } = self;
-        let (failure, watchers) = clients.end();
-        let met = match failure {
-            Some(error) if has_journal => Err(error),
-            _ => Ok(acceptor.end()),
+        let clients = self.clients;
+        let common = clients.common;
+        let met = match common.journal_failure {
+            Some(error) if self.has_journal => Err(error),
+            _ => Ok(self.acceptor.end()),
         };
-        (met, watchers)
+        (met, common.watchers)
     }
 }

@@ -19,7 +19,6 @@ mod passing;
 mod port;
 mod serve_end;
 mod settings;
-mod tally;
 mod watchers;
 
 pub use port::MainPort;

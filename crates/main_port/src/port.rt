@@ -5,13 +5,12 @@ ghost use Rattle.std.specs.Prelude.{◌≡◌, ◌≤◌, ◌+◌, IfErr, IfOk, 
 use crate::acceptor::Acceptor;
 use crate::boards::Boards;
 use crate::clients::Clients;
-use crate::common::{Common, MOST_UNSENT_WITH_JOURNAL};
+use crate::common::Common;
 use crate::event_loop::EventLoop;
 use crate::serve_end::ServeEnd;
 use crate::settings::Settings;
 use crate::watchers::Watchers;
 use chained_lines::StableFile;
-use mio::Registry;
 use relay_durable::DurableService;
 use server_loop::{LISTENER, Listener, Log, LoopClock, Poller, watch_input};
 use std::alloc::Global;
@@ -29,12 +28,9 @@ use std::time::Clock;
 pub struct MainPort {
     alloc: Global,
     settings: Settings,
-    /// What the loop knows of boards, and the room for answers that have yet to be sent: taken before anybody is served.
+    /// What the loop knows of boards: the room for it is taken before anybody is served.
     boards: Boards,
-    unsent: Vec<u64>,
     poller: Poller,
-    /// The same, for whoever registers connections.
-    registry: Registry,
     listener: Listener,
     clock: LoopClock,
     /// Whether standard input has ended.
@@ -68,9 +64,7 @@ impl MainPort {
             alloc,
             settings: *settings,
             boards: Boards::new(alloc, &settings.limits)?,
-            unsent: Vec::with_capacity(alloc, MOST_UNSENT_WITH_JOURNAL)?,
             listener: Listener::new(listener, poller.registry(), LISTENER)?,
-            registry: poller.registry().try_clone()?,
             poller,
             clock: LoopClock::begin(net)?,
             has_input_ended: Arc::new(alloc, AtomicBool::new(false))?,
@@ -96,33 +90,6 @@ impl MainPort {
         rt: &R,
         service: DurableService<StableFile>,
         watchers: W,
-        log: Log,
-    ) -> (io::Result<ServeEnd>, W)
-    where
-        R: Input<Reader = StdinLock<'static>>
-            + Threads
-            + Wait
-            + Clock
-            + Clone
-            + Send
-            + Drop
-            + 'static,
-        W: Watchers + Drop,
-        ensures most { IfOk result.0 (λ end. IfSome self.most (λ n. end.served + end.failed ≤ n)) }
-        ensures all { self.until_input_ends ≡ false → IfOk result.0 (λ end. IfSome self.most (λ n. end.served + end.failed ≡ n)) }
-        ensures failed { IfErr result.0 (λ error. is_some service.scribe ≡ true) }
-    {
-        let ended = self.serve(rt, service, watchers, &log);
-        log.end(rt);
-        ended
-    }
-
-    /// The same, but the log goes on.
-    fn serve<R, W>(
-        self,
-        rt: &R,
-        service: DurableService<StableFile>,
-        watchers: W,
         log: &Log,
     ) -> (io::Result<ServeEnd>, W)
     where
@@ -143,9 +110,7 @@ impl MainPort {
             alloc,
             settings,
             boards,
-            unsent,
             mut poller,
-            registry,
             listener,
             clock,
             has_input_ended,
@@ -157,7 +122,7 @@ impl MainPort {
             has_input_ended.store(true, Ordering::SeqCst);
         }
         let common = Common::new(rt, alloc, service, &settings, boards, clock, watchers, log);
-        let clients = Clients::new(common, registry, unsent);
+        let clients = Clients::new(common);
         let acceptor = Acceptor::new(listener, &settings, &has_input_ended, log);
         EventLoop::new(clients, acceptor).run(&mut poller)
     }

@@ -18,31 +18,3 @@ pub trait Watchers {
     /// Serving ends, and all boards were ended, or a journal keeps them. Called once, if at all.
     fn has_ended(&mut self);
 }
-
-/// Without those who watch, nobody is told.
-impl<W: Watchers> Watchers for Option<W> {
-    fn changed(&mut self, at: usize) {
-        if let Some(watchers) = self {
-            watchers.changed(at);
-        }
-    }
-
-    fn tell(&mut self, hall: &Hall) {
-        if let Some(watchers) = self {
-            watchers.tell(hall);
-        }
-    }
-
-    fn wake(&mut self, hall: &Hall) -> bool {
-        match self {
-            Some(watchers) => watchers.wake(hall),
-            None => true,
-        }
-    }
-
-    fn has_ended(&mut self) {
-        if let Some(watchers) = self {
-            watchers.has_ended();
-        }
-    }
-}

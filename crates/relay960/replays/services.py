@@ -74,7 +74,7 @@ def connections(count):
 
 def few_descriptors():
     """The three standard streams, what the loop asks and is woken by, the listener, the descriptor in reserve and one connection."""
-    resource.setrlimit(resource.RLIMIT_NOFILE, (9, 9))
+    resource.setrlimit(resource.RLIMIT_NOFILE, (8, 8))
 
 
 def told(peer):

@@ -20,7 +20,7 @@ from relay_client.texts import NOT_OBJECT
 from relay_client.waiting import is_readable
 
 WAITING = 300  # Newcomers that wait to be accepted.
-NO_LOOP = 6  # Descriptors: the three standard streams, the listener, and one fewer than its loop takes.
+NO_LOOP = 5  # Descriptors: the three standard streams, the listener, and one fewer than its loop takes.
 BACKLOG = 4096
 # Linux, sock_diag(7): the question for all sockets of TCP that listen, and where an answer has the port and the backlog.
 SOCK_DIAG, BY_FAMILY, ASKS_FOR_ALL, DONE, LISTENING = 4, 20, 0x301, 3, 1 << 10

@@ -271,8 +271,8 @@ class UntilInputEnds(unittest.TestCase):
             silent.close()
 
     def test_it_ends_where_there_is_no_descriptor_left(self):
-        """The three standard streams, the listener, the one in reserve, three of the loop, and three connections."""
-        most = 11
+        """The three standard streams, the listener, the one in reserve, two of the loop, and three connections."""
+        most = 10
         with self.server("--forever") as server:
             resource.prlimit(server.process.pid, resource.RLIMIT_NOFILE, (most, most))
             owner, guest, other = owner_of(server), guest_of(server), Connection(server.port)

@@ -43,7 +43,11 @@ impl<'a, R: Wait + Clock, W: Watchers> Clients<'a, R, W> {
         if begins {
             self.looked_at = now;
             self.unlooked = self.each.len();
-            self.common.counts(self.unlooked);
+            let common = &mut self.common;
+            let boards = common.service.hall().len();
+            common
+                .log
+                .counts(self.unlooked, common.boards.total(), boards);
         }
         let until = self.common.time_for(MOST_LOOKING_MICROS);
         for _ in 0..MOST_LOOKED_AT {

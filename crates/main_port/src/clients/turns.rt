@@ -21,34 +21,22 @@ const MOST_FOLLOWERS_MICROS: u64 = 60;
 /// one of them takes, so that an owner whose move comes meanwhile hardly waits for more than that one.
 const MOST_OTHERS_MICROS: u64 = 20;
 
-/// What the system reported at once.
-#[derive(Clone, Copy)]
-pub(crate) struct Report {
-    /// How many events.
-    pub(crate) told: usize,
-    /// Whether newcomers are waiting.
-    pub(crate) has_newcomers: bool,
-}
-
 impl<'a, R: Wait + Clock, W: Watchers> Clients<'a, R, W> {
     // ---- Who is due one.
 
-    /// Notes what the system reported, all of which has come since this millisecond: who is due a turn. Returns how much it was.
-    pub(crate) fn note(&mut self, events: &Events, since: u64) -> Report {
+    /// Notes what the system reported, all of which has come since this millisecond: who is due a turn. Returns whether newcomers are
+    /// waiting.
+    pub(crate) fn note(&mut self, events: &Events, since: u64) -> bool {
         self.common.since = since;
-        let mut report = Report {
-            told: 0,
-            has_newcomers: false,
-        };
+        let mut has_newcomers = false;
         for event in events.iter() {
-            report.told = report.told.saturating_add(1);
             match event.token() {
-                LISTENER => report.has_newcomers = true,
+                LISTENER => has_newcomers = true,
                 WAKER => {}
                 Token(number) => self.notes_event(number as u64, event),
             }
         }
-        report
+        has_newcomers
     }
 
     /// Notes one thing that the system reported: that a connection may be read or written, or that its output has ended.
@@ -72,49 +60,26 @@ impl<'a, R: Wait + Clock, W: Watchers> Clients<'a, R, W> {
         }
     }
 
-    /// Those who follow this board are due a turn.
+    /// Those who follow this board, and whose connections take what is due, are due a turn.
     fn spreads_change(&mut self, at: usize)
         ensures { AllStay self.old.each.entries self.new.each.entries }
     {
         for index in 0..self.common.boards.count(at) {
-            if let Some(number) = self.common.boards.number(at, index) {
-                self.notes_change(number);
+            let Some(number) = self.common.boards.number(at, index) else {
+                break;
+            };
+            if let Some(client) = self.each.get_mut(&number) {
+                if !client.is_blocked() {
+                    self.common.stands_due_as(client, Rank::Follower);
+                }
             }
         }
         self.common.boards.are_due(at);
     }
 
-    /// The board that a connection follows has changed.
-    fn notes_change(&mut self, number: u64)
-        ensures { AllStay self.old.each.entries self.new.each.entries }
-    {
-        if let Some(client) = self.each.get_mut(&number) {
-            if client.follows() && !client.is_blocked() {
-                self.common.stands_due_as(client, Rank::Follower);
-            }
-        }
-    }
-
-    /// Gives a connection a turn of this rank.
-    pub(super) fn stands_due_as(&mut self, number: u64, rank: Rank)
-        ensures { AllStay self.old.each.entries self.new.each.entries }
-    {
-        if let Some(client) = self.each.get_mut(&number) {
-            self.common.stands_due_as(client, rank);
-        }
-    }
-
     /// Whether any is due a turn.
     pub(crate) fn has_due(&self) -> bool {
         !self.common.queue.is_empty() || self.common.boards.has_changed()
-    }
-
-    /// Everything that connections had sent by this millisecond has been heard, if everything by the millisecond `asked` was reported.
-    pub(crate) fn heard_by(&self, asked: u64) -> u64 {
-        self.common
-            .queue
-            .since()
-            .map_or(asked, |since| since.min(asked))
     }
 
     // ---- Who has one.
@@ -190,6 +155,7 @@ impl<'a, R: Wait + Clock, W: Watchers> Clients<'a, R, W> {
     /// A connection had its turn, and has yet to be sent its answers. They are sent for some connections at once.
     fn queues_answers(&mut self, number: u64) {
         if self.unsent.push(number).is_err() {
+            self.send_answers();
             self.attend(number, Due::Answers);
         }
         if self.unsent.len() >= self.common.most_unsent() {

@@ -54,13 +54,6 @@ impl<'a, R: Wait + Clock, W: Watchers> Common<'a, R, W> {
         }
     }
 
-    /// So many connections there are: that is counted for the log, with those that follow, and the boards.
-    pub(crate) fn counts(&self, connections: usize) {
-        let followers = self.boards.total();
-        self.log
-            .counts(connections, followers, self.service.hall().len());
-    }
-
     // ---- What a connection is to them.
 
     /// Notes what a connection is to boards, by the service: whether it owns one, or follows one.
@@ -79,7 +72,7 @@ impl<'a, R: Wait + Clock, W: Watchers> Common<'a, R, W> {
     }
 
     /// What a connection is to boards that was this before.
-    pub(super) fn role(&self, number: u64, was: Role) -> Role {
+    fn role(&self, number: u64, was: Role) -> Role {
         if self.service.stage(number) == Some(Stage::Follows) {
             if let Some(at) = self.service.place(number) {
                 return Role::Follower(at);
@@ -114,17 +107,12 @@ impl<'a, R: Wait + Clock, W: Watchers> Common<'a, R, W> {
         let Role::Follower(at) = client.role else {
             return;
         };
-        self.unfollows(at, client.number());
+        self.boards.remove(at, client.number());
+        self.counts_followers(at);
         if self.service.was_cut(client.number()) {
             self.log.cut(self.service.hall(), at);
         }
         client.role = Role::Other;
-    }
-
-    /// A connection is not among those any more that follow a board.
-    pub(super) fn unfollows(&mut self, at: usize, number: u64) {
-        self.boards.remove(at, number);
-        self.counts_followers(at);
     }
 
     /// Tells the service whether a board has as many followers as it may have. Else each refused follow would look at all slots, each of

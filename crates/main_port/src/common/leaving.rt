@@ -1,7 +1,7 @@
 //! How a connection leaves the hall, is let go, and goes.
 
 use super::Common;
-use crate::client::{Client, Ends, Role, State};
+use crate::client::{Client, Ends, State};
 use crate::passing::send_to;
 use crate::watchers::Watchers;
 use std::sync::Wait;
@@ -32,7 +32,7 @@ impl<'a, R: Wait + Clock, W: Watchers> Common<'a, R, W> {
             self.leaves_board(client);
         }
         if let Some(key) = &owner.key {
-            self.log.waits(self.service.hall(), key);
+            self.log.came_or_left(self.service.hall(), key);
         }
         true
     }
@@ -75,8 +75,8 @@ impl<'a, R: Wait + Clock, W: Watchers> Common<'a, R, W> {
         let number = client.number();
         if self.leaves_hall(number, Some(&mut client)) {
             self.service.disconnect(number);
-        } else if let Role::Follower(at) = client.role {
-            self.unfollows(at, number);
+        } else {
+            self.leaves_board(&mut client);
         }
     }
 }

@@ -3,7 +3,6 @@
 use super::Common;
 use crate::client::{Client, Ends, Input, Role, State};
 use crate::watchers::Watchers;
-use relay_hall::Shown;
 use relay_service::Stage;
 use server_loop::{Stage as Waited, Times, Verdict};
 use std::sync::Wait;
@@ -17,11 +16,7 @@ impl<'a, R: Wait + Clock, W: Watchers> Common<'a, R, W> {
             return Ok(());
         }
         let waited = self.waited(client);
-        let most_idle = if client.role == Role::Other {
-            self.most_idle
-        } else {
-            None
-        };
+        let most_idle = self.most_idle.filter(|_| client.role == Role::Other);
         match client
             .deadlines
             .verdict(&Times::MAIN_PORT, now, waited, most_idle)
@@ -50,28 +45,25 @@ impl<'a, R: Wait + Clock, W: Watchers> Common<'a, R, W> {
 
     /// Sends a connection a ping.
     fn ping(&mut self, client: &mut Client) -> Result<(), Ends> {
-        if self.service.ping(client.number()).is_err() {
-            return Err(Ends::Gone);
-        }
+        self.service.ping(client.number())?;
         self.send(client)
     }
 
     /// A connection has sent no message for too long. It goes, unless a board belongs to it.
     fn drops_idle(&mut self, client: &mut Client, now: u64) -> Result<(), Ends> {
-        let role = self.role(client.number(), Role::Other);
-        if let Role::Owner(_) = role {
-            client.role = role;
-            client.deadlines.begins(now);
-            return Ok(());
+        self.notes_role(client)?;
+        if client.role == Role::Other {
+            return self.close(client);
         }
-        self.close(client)
+        client.deadlines.begins(now);
+        Ok(())
     }
 
     /// Gives a connection the turn for which there was no memory when it became due, if that is so: something has come from it, or it is
     /// behind its board, whose game may be over. One that follows whose connection takes nothing takes no moves, and so does not learn that
     /// it was cut off: if it must have been, it takes everything that is left to it, and its slot on the board is free.
     fn remembers(&mut self, client: &mut Client) -> Result<(), Ends> {
-        let behind = self.behind(client.number());
+        let (behind, is_over) = self.behind(client.number()).unwrap_or((0, false));
         if client.is_blocked() {
             if behind > self.capacity {
                 self.service.push_all(client.number())?;
@@ -80,33 +72,20 @@ impl<'a, R: Wait + Clock, W: Watchers> Common<'a, R, W> {
         } else if client.input != Input::Nothing && client.is_read()
             || client.state == State::Interrupted
             || behind > 0
-            || self.is_due_the_end(client.number())
+            || is_over
         {
             self.stands_due(client);
         }
         Ok(())
     }
 
-    /// Whether a connection has yet to take the end of its board's game, if it follows one: behind that it follows no more.
-    fn is_due_the_end(&self, number: u64) -> bool {
-        self.service.stage(number) == Some(Stage::Follows)
-            && self
-                .followed(number)
-                .is_some_and(|shown| shown.outcome().is_some())
-    }
-
-    /// How many moves of its board a connection has yet to take, if it follows one.
-    fn behind(&self, number: u64) -> u64 {
-        let Some(next) = self.service.next(number) else {
-            return 0;
-        };
-        let plies = self.followed(number).map_or(0, |shown| shown.plies());
-        u64::from(plies).saturating_sub(next)
-    }
-
-    /// The board that a connection follows, if it follows one.
-    fn followed(&self, number: u64) -> Option<Shown<'_>> {
-        self.service.hall().board(self.service.place(number)?)
+    /// How many moves of its board a connection has yet to take, if it follows one, and whether the game is over: once it has taken that,
+    /// it follows no more.
+    fn behind(&self, number: u64) -> Option<(u64, bool)> {
+        let next = self.service.next(number)?;
+        let shown = self.service.hall().board(self.service.place(number)?)?;
+        let behind = u64::from(shown.plies()).saturating_sub(next);
+        Some((behind, shown.outcome().is_some()))
     }
 
     /// Serving ends: one that asks is told so, and with a journal, whose games go on at the next start, one that follows too.

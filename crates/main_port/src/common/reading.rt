@@ -6,18 +6,12 @@ use crate::passing::receive_from;
 use crate::watchers::Watchers;
 use relay_hall::Owner;
 use relay_service::Stage;
-use server_loop::{Intake, end_of_pause, start_of_pause};
+use server_loop::{Intake, MOST_PIECES, PIECE_BYTES};
 use std::sync::Wait;
 use std::time::{Clock, Duration};
 
 /// For how many microseconds one connection is answered in its turn.
 const MOST_ANSWERED_MICROS: u64 = 50;
-
-/// How many pieces of what a connection sends are read before the others have their turn.
-const MOST_PIECES: u32 = 4;
-
-/// How many bytes a piece has.
-const PIECE_BYTES: usize = 4096;
 
 /// What came of the next event of a connection.
 #[derive(Clone, Copy, PartialEq, Eq)]
@@ -78,10 +72,10 @@ impl<'a, R: Wait + Clock, W: Watchers> Common<'a, R, W> {
             return;
         }
         self.clock.look(self.rt);
-        let since = start_of_pause(self.clock.millis(), client.number());
-        let until = end_of_pause(since, client.refused);
+        let now = self.clock.millis();
         client.state = State::Pauses;
-        if self.backoff.add(client.number(), until).is_err() {
+        let paused = self.backoff.add(client.number(), now, client.refused);
+        if paused.is_err() {
             client.has_paused();
         }
     }
@@ -124,7 +118,7 @@ impl<'a, R: Wait + Clock, W: Watchers> Common<'a, R, W> {
         client.deadlines.begins(self.clock.millis());
         self.coming = self.coming.saturating_sub(1);
         if let Some(Owner { key: Some(key), .. }) = self.service.owner(client.number()) {
-            self.log.is_back(self.service.hall(), &key);
+            self.log.came_or_left(self.service.hall(), &key);
         }
     }
 

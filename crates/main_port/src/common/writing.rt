@@ -73,9 +73,7 @@ impl<'a, R: Wait + Clock, W: Watchers> Common<'a, R, W> {
     /// Tells a connection that the server goes away from it, and then ends it.
     #[tactic(auto, unfolding(relay_frames::specs::Codes::may_be_sent))]
     pub(super) fn close(&mut self, client: &mut Client) -> Result<(), Ends> {
-        if self.service.close(client.number(), Code::AWAY).is_err() {
-            return Err(Ends::Gone);
-        }
+        self.service.close(client.number(), Code::AWAY)?;
         self.notes_role(client)?;
         self.send(client)
     }

@@ -10,7 +10,6 @@ use crate::serving::watching::{Loops, Watch};
 use chained_lines::StableFile;
 use main_port::{MainPort, ServeEnd, Settings};
 use relay_durable::DurableService;
-use relay_hall::Hall;
 use relay960_words::{Connections, Service};
 use server_loop::Log;
 use std::alloc::Global;
@@ -20,7 +19,7 @@ use std::io::{ErrorKind, StdinLock, Write};
 use std::net::{Ipv4Addr, Net, SocketAddr, TcpListener, TcpStream};
 use std::sync::Wait;
 use std::thread::Threads;
-use std::time::{Clock, Duration};
+use std::time::Clock;
 
 /// Goes on with the journal, if there is one, and listens. Writes the line `listening P` to standard output, and `watching A:P` if there is
 /// a watch port. Serves until all connections have gone, or until standard input ends if that is asked for.
@@ -50,7 +49,7 @@ where
     ensures { IfOk result (MeetsWith service.now.connections service.now.until_input_ends) }
 {
     let relay = relay_of(rt, alloc, service)?;
-    let watch = open_watch(rt, alloc, service)?;
+    let watch = Watch::open(rt, alloc, service)?;
     let port = open_port(rt, alloc, service)?;
     serve_port(rt, alloc, service, relay, watch, port)
 }
@@ -65,7 +64,7 @@ fn serve_port<'a, R>(
     alloc: Global,
     service: &Service<'a>,
     relay: DurableService<StableFile>,
-    watch: Option<Watch>,
+    watch: Watch,
     port: MainPort,
 ) -> Result<ServeEnd, ServeFault<'a>>
 where
@@ -97,7 +96,7 @@ fn serve_watched<'a, R>(
     alloc: Global,
     service: &Service<'a>,
     relay: DurableService<StableFile>,
-    watch: Option<Watch>,
+    watch: Watch,
     port: MainPort,
     log: Log,
 ) -> Result<ServeEnd, ServeFault<'a>>
@@ -116,7 +115,7 @@ where
     requires ends { port.until_input_ends ≡ service.now.until_input_ends }
     ensures { IfOk result (MeetsWith service.now.connections service.now.until_input_ends) }
 {
-    match start_loops(rt, alloc, watch, relay.hall()) {
+    match watch.start(rt, alloc, relay.hall()) {
         Ok(loops) => serve_loops(rt, service, relay, port, loops, log),
         Err(fault) => {
             log.end(rt);
@@ -134,16 +133,12 @@ fn start_log<R>(
     rt: &R,
     alloc: Global,
     service: &Service,
-    watch: &Option<Watch>,
+    watch: &Watch,
 ) -> Result<Log, ServeFault<'static>>
 where
     R: Threads + Wait + Clock + Clone + Send + Drop + Eprint + 'static,
 {
-    let watching = match watch {
-        Some(watch) => Some(watch.count()?),
-        None => None,
-    };
-    match Log::start(rt, alloc, service.log, watching) {
+    match Log::start(rt, alloc, service.log, watch.count()?) {
         Ok(log) => Ok(log),
         Err(_) => Err(ServeFault::OutOfMemory),
     }
@@ -159,7 +154,7 @@ fn serve_loops<'a, R>(
     service: &Service<'a>,
     relay: DurableService<StableFile>,
     port: MainPort,
-    loops: Option<Loops>,
+    loops: Loops,
     log: Log,
 ) -> Result<ServeEnd, ServeFault<'a>>
 where
@@ -178,11 +173,12 @@ where
 {
     if let Err(reason) = announce(rt, service) {
         log.end(rt);
-        end_loops(rt, loops);
+        loops.end(rt);
         return Err(ServeFault::unwritten(Device::Output, reason));
     }
-    let (ended, loops) = port.attend(rt, relay, loops, log);
-    end_loops(rt, loops);
+    let (ended, loops) = port.attend(rt, relay, loops, &log);
+    log.end(rt);
+    loops.end(rt);
     or_journal_fault(service, ended)
 }
 
@@ -201,23 +197,6 @@ fn or_journal_fault<'a>(
             Err(ServeFault::unwritten(journal, reason))
         }
     }
-}
-
-/// Listens on the watch port, if there is to be one.
-///
-/// # Errors
-///
-/// The server cannot listen there, or there was no memory.
-fn open_watch<R: Net>(
-    rt: &R,
-    alloc: Global,
-    service: &Service,
-) -> Result<Option<Watch>, ServeFault<'static>> {
-    let Some(asked) = &service.watch else {
-        return Ok(None);
-    };
-    let most_idle = most_idle(service.idle);
-    Ok(Some(Watch::open(rt, alloc, asked, most_idle, service.limits)?))
 }
 
 /// Listens on the main port, and takes all that it takes to serve it.
@@ -254,7 +233,7 @@ fn settings_of(service: &Service) -> Settings
 {
     Settings {
         limits: service.limits,
-        idle: idle_of(service.idle),
+        idle: most_idle(service.idle).map(|seconds| seconds.saturating_mul(1000)),
         most: most_of(service.connections),
         until_input_ends: service.until_input_ends,
     }
@@ -267,33 +246,6 @@ fn most_of(connections: Connections) -> Option<u32>
     match connections {
         Connections::Count(most) => Some(most),
         Connections::Forever => None,
-    }
-}
-
-/// Starts the loops of the watch port, if there is one. This is the hall whose boards they show.
-///
-/// # Errors
-///
-/// There was no memory, or no thread.
-fn start_loops<R>(
-    rt: &R,
-    alloc: Global,
-    watch: Option<Watch>,
-    hall: &Hall,
-) -> Result<Option<Loops>, ServeFault<'static>>
-where
-    R: Threads + Wait + Clock + Clone + Send + Drop + 'static,
-{
-    match watch {
-        Some(watch) => Ok(Some(watch.start(rt, alloc, hall)?)),
-        None => Ok(None),
-    }
-}
-
-/// Ends the loops of the watch port, if there is one.
-fn end_loops<R: Threads>(rt: &R, loops: Option<Loops>) {
-    if let Some(loops) = loops {
-        loops.end(rt);
     }
 }
 
@@ -311,21 +263,12 @@ fn announce<R: Print>(rt: &R, service: &Service) -> io::Result<()> {
     }
 }
 
-/// For how many seconds a client of the watch port that asks for nothing is waited for.
-fn most_idle(idle: u32) -> Option<u64> {
+/// For how many seconds a connection that asks for nothing is waited for, if that is bounded.
+pub(super) fn most_idle(idle: u32) -> Option<u64> {
     if idle == 0 {
         None
     } else {
         Some(u64::from(idle))
-    }
-}
-
-/// For how long a connection of the main port is waited for that asks for nothing.
-fn idle_of(idle: u32) -> Option<Duration> {
-    if idle == 0 {
-        None
-    } else {
-        Some(Duration::from_secs(u64::from(idle)))
     }
 }
 

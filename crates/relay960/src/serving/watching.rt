@@ -1,10 +1,11 @@
-//! The watch port, next to the relay's main port.
+//! The watch port, next to the relay's main port, if there is one.
 
 use crate::serving::fault::ServeFault;
+use crate::serving::service::most_idle;
 use c960_game::Limits;
 use main_port::Watchers;
 use relay_hall::Hall;
-use relay960_words::WatchPort;
+use relay960_words::{Service, WatchPort};
 use server_loop::LoopWaker;
 use std::alloc::Global;
 use std::io;
@@ -20,10 +21,10 @@ use watch_port::{EventLoop, Feed, Port, Publisher};
 /// header fields less.
 const STACK_BYTES: usize = 512 * 1024;
 
-/// A watch port that is listening, and its loops, which are not running yet.
+/// A watch port that is listening, and its loops, which are not running yet. Without a watch port there are none.
 #[derive(Drop)]
 pub(super) struct Watch {
-    port: Arc<Port, Global>,
+    port: Option<Arc<Port, Global>>,
     loops: Vec<EventLoop>,
     feeds: Vec<Feed>,
 }
@@ -38,16 +39,15 @@ struct Running {
 /// The running loops, and what tells them of boards.
 #[derive(Drop)]
 pub(super) struct Loops {
-    port: Arc<Port, Global>,
+    port: Option<Arc<Port, Global>>,
     publisher: Publisher,
-    /// In the order of the publisher's feeds.
     running: Vec<Running>,
     /// Whether all boards were ended.
     has_ended: bool,
 }
 
 impl Watch {
-    /// Listens on the watch port. These are the limits of the boards.
+    /// Listens on the watch port, if there is to be one.
     ///
     /// # Errors
     ///
@@ -55,19 +55,27 @@ impl Watch {
     pub(super) fn open<R: Net>(
         rt: &R,
         alloc: Global,
-        asked: &WatchPort,
-        most_idle: Option<u64>,
-        limits: Limits,
+        service: &Service,
     ) -> Result<Watch, ServeFault<'static>> {
-        match open(rt, alloc, asked, most_idle, limits) {
+        let Some(asked) = &service.watch else {
+            return Ok(Watch {
+                port: None,
+                loops: Vec::new(alloc),
+                feeds: Vec::new(alloc),
+            });
+        };
+        match open(rt, alloc, asked, most_idle(service.idle), service.limits) {
             Ok(watch) => Ok(watch),
             Err(error) => Err(fault_of(asked.address, error)),
         }
     }
 
-    /// How many spectators there are.
-    pub(super) fn count(&self) -> Result<Arc<AtomicU32, Global>, ServeFault<'static>> {
-        Ok(self.port.count()?)
+    /// How many spectators there are, if there is a watch port.
+    pub(super) fn count(&self) -> Result<Option<Arc<AtomicU32, Global>>, ServeFault<'static>> {
+        match &self.port {
+            Some(port) => Ok(Some(port.count()?)),
+            None => Ok(None),
+        }
     }
 
     /// Starts the loops, each on a thread of its own. The boards that there are, those of a journal, are told them before: whoever watched
@@ -130,7 +138,7 @@ fn open<R: Net>(
         loops.push(event_loop)?;
         feeds.push(feed)?;
     }
-    let port = Arc::new(alloc, port)?;
+    let port = Some(Arc::new(alloc, port)?);
     Ok(Watch { port, loops, feeds })
 }
 
@@ -143,12 +151,12 @@ fn fault_of(address: SocketAddr, error: io::Error) -> ServeFault<'static> {
 }
 
 /// Starts a loop.
-fn spawn<R>(rt: &R, port: &Arc<Port, Global>, event_loop: EventLoop) -> Option<Running>
+fn spawn<R>(rt: &R, port: &Option<Arc<Port, Global>>, event_loop: EventLoop) -> Option<Running>
 where
     R: Threads + Wait + Clock + Clone + Send + Drop + 'static,
 {
     let own = rt.clone().ok()?;
-    let port = Arc::try_clone(port).ok()?;
+    let port = Arc::try_clone(port.as_ref()?).ok()?;
     let waker = Arc::try_clone(event_loop.waker()).ok()?;
     let handle = Builder::new()
         .stack_size(STACK_BYTES)
@@ -170,7 +178,13 @@ impl Loops {
 
     /// Closes the port, and wakes all loops.
     fn close(&self) {
-        self.port.close();
+        if let Some(port) = &self.port {
+            port.close();
+        }
+        self.wake_all();
+    }
+
+    fn wake_all(&self) {
         for running in self.running.iter() {
             running.waker.wake();
         }
@@ -190,10 +204,8 @@ impl Watchers for Loops {
     /// port have gone.
     fn wake(&mut self, hall: &Hall) -> bool {
         let are_told = self.publisher.publish_again(hall);
-        for at in 0..self.running.len() {
-            if self.publisher.take_fresh(at) {
-                self.running[at].waker.wake();
-            }
+        if self.publisher.take_fresh() {
+            self.wake_all();
         }
         if self.has_ended && are_told {
             self.has_ended = false;
