@@ -13,3 +13,4 @@ pub mod Runs
 pub mod Restart
 pub mod Inner
 pub mod Telling
+pub mod Taking
