@@ -1,3 +1,2 @@
 pub mod Shared
-pub mod Taking
 pub mod Talking

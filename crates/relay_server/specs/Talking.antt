@@ -7,14 +7,14 @@ use Rattle.relay_pushing.specs.Connections.{Answered}
 use Rattle.relay_pushing.specs.Pushing.{Pushed}
 use Rattle.relay_pushing.specs.declared.pushing.PushEnd.{PushEnd}
 use Rattle.relay_pushing.specs.declared.pushing.PushEnd.TheVariants as pushes
-use Rattle.live_board.specs.Seats.{FollowerSeat}
+use Rattle.relay_hall.specs.declared.handed.Handed.{Handed}
+use Rattle.relay_hall.specs.Taking.{Gives}
 use Rattle.tungstenite.specs.Connection.{write_step}
 use Rattle.tungstenite.specs.Content.{text as text_of}
 use Rattle.tungstenite.specs.Socket.{Socket, Writes}
 use Rattle.relay_server.specs.declared.ends.SessionEnd.{SessionEnd}
 use Rattle.relay_server.specs.declared.ends.SessionEnd.TheVariants as ends
 use Rattle.relay_server.specs.Shared.{KeeperMakes, KeeperState, Tells}
-use Rattle.relay_server.specs.Taking.{Gives}
 
 -- these bytes answer a text of a connection that has opened these boards, or a message that is no text
 abbrev pub IsAnswer : Option (List ℕ) → List (List ℕ) → KeeperState → List ℕ → List (List ℕ) → KeeperState → Type 0
@@ -33,9 +33,9 @@ session_end (pushes.Over outcome) = ends.Over
 session_end pushes.Cut = ends.Cut
 session_end (pushes.Failed fault) = ends.Failed
 
--- the follower took and its outlet was handed what `push_all` says, and the session ended so
-pub record IsPushed (f : FollowerSeat) (ended : SessionEnd) : Type 0 where
-  pub left : FollowerSeat
+-- the follower that was handed out took and its outlet was handed what `push_all` says, and the session ended so
+pub record IsPushed (h : Handed) (ended : SessionEnd) : Type 0 where
+  pub left : Handed
   pub end : PushEnd
-  pub pushed : Pushed Gives f left None None end
+  pub pushed : Pushed Gives h left None None end
   pub ended_so : ended ≡ session_end end

@@ -5,7 +5,6 @@
 
 mod board_bell;
 mod ends;
-mod follower_source;
 mod gates;
 mod outlet;
 mod registry;

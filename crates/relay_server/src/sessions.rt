@@ -5,7 +5,6 @@ ghost use Rattle.relay_server.specs.Talking.{IsAnswer, IsAnswered, IsPushed, ses
 
 use crate::board_bell::BoardBell;
 use crate::ends::SessionEnd;
-use crate::follower_source::FollowerSource;
 use crate::outlet::SocketOutlet;
 use crate::registry::Registry;
 use crate::shared_keeper::SharedKeeper;
@@ -153,23 +152,21 @@ impl<R: Wait, S: Read + Write + Drop, G: Gate> Talk<'_, '_, R, S, G> {
     }
 
     /// Pushes a board's moves to the connection until they end, then closes it. The follower leaves.
-    fn follow(&mut self, handed: Handed) -> SessionEnd {
-        let Handed { board, follower } = handed;
-        let mut source = FollowerSource { follower };
-        let end = match self.keeper.bell_of(&board) {
-            Some(bell) => self.push(&mut source, &bell),
+    fn follow(&mut self, mut handed: Handed) -> SessionEnd {
+        let end = match self.keeper.bell_of(&handed.board) {
+            Some(bell) => self.push(&mut handed, &bell),
             // Each board has a bell.
             None => SessionEnd::Failed,
         };
-        let _ = source.follower.leave();
+        let _ = handed.follower.leave();
         end
     }
 
-    /// Pushes what a source gives to the connection until that ends, then closes it.
-    fn push(&mut self, source: &mut FollowerSource, bell: &BoardBell<'_, R>) -> SessionEnd
-        ensures { IsPushed source.old result }
+    /// Pushes what is taken of it to the connection until that ends, then closes it.
+    fn push(&mut self, handed: &mut Handed, bell: &BoardBell<'_, R>) -> SessionEnd
+        ensures { IsPushed handed.old result }
     {
-        let end = push_all(bell.rt, self.alloc, &mut self.outlet, source, bell);
+        let end = push_all(bell.rt, self.alloc, &mut self.outlet, handed, bell);
         self.close_after(end)
     }
 

@@ -2,10 +2,8 @@
 
 use crate::tests::claims::claim;
 use crate::tests::sessions::frames::{REQUEST, behind_head, lines};
-use live_board::Follower;
-use relay_core::Taken;
 use relay_hall::{Hall, Handed};
-use relay_server::{Bell, Outlet, PushEnd, SendFault, SessionEnd, Source, push_all};
+use relay_server::{Bell, Outlet, PushEnd, SendFault, SessionEnd, push_all};
 use relay_service::calling::{OperatorConnection, Stage};
 use std::alloc::Global;
 use std::process::Abort;
@@ -31,22 +29,6 @@ impl Outlet for Lines {
 
     fn close(&mut self, _code: u16) -> Result<(), SendFault> {
         Ok(())
-    }
-}
-
-/// A follower as a source. It says nothing to a contract.
-#[derive(Drop)]
-struct Taker {
-    follower: Follower,
-}
-
-impl Source for Taker {
-    ghost use Rattle.std.specs.Prelude.{⊤};
-
-    ghost gives = { λ _ _ _. ⊤ };
-
-    fn take(&mut self) -> Taken {
-        self.follower.take()
     }
 }
 
@@ -100,13 +82,12 @@ fn closed(end: PushEnd) -> (SessionEnd, &'static [u8]) {
 }
 
 /// How the pushing of a follower ends, which leaves its board then, and what it is pushed.
-fn pushed<R: Wait>(rt: &R, alloc: Global, follower: Follower) -> (PushEnd, Vec<u8>) {
-    let mut source = Taker { follower };
+fn pushed<R: Wait>(rt: &R, alloc: Global, mut handed: Handed) -> (PushEnd, Vec<u8>) {
     let mut outlet = Lines {
         told: Vec::new(alloc),
     };
-    let end = push_all(rt, alloc, &mut outlet, &mut source, &Silent);
-    let _ = source.follower.leave();
+    let end = push_all(rt, alloc, &mut outlet, &mut handed, &Silent);
+    let _ = handed.follower.leave();
     (end, outlet.told)
 }
 
@@ -148,8 +129,7 @@ impl Fast {
 
     /// It is told of the board that it follows, to its end.
     fn follows<R: Wait + Abort>(&mut self, rt: &R, handed: Handed) {
-        let Handed { follower, .. } = handed;
-        let (end, told) = pushed(rt, self.alloc, follower);
+        let (end, told) = pushed(rt, self.alloc, handed);
         let (end, close) = closed(end);
         self.pushed = told;
         self.pushed.extend_from_slice(close).expect(rt, "memory");
