@@ -80,16 +80,6 @@ impl<'a> Clients<'a> {
         }
     }
 
-    /// Tells clients the news of all boards that are watched. If there is no memory for them, that is tried again in the next turn.
-    pub(crate) fn tell_all(&mut self) {
-        for at in 0..self.common.audiences.capacity() {
-            let _ = self.common.look_for_news(at);
-            self.tell();
-        }
-        let _ = self.common.look_for_changes();
-        self.tell();
-    }
-
     /// Tells clients the news that was found meanwhile.
     pub(crate) fn tell(&mut self) {
         let alloc = self.common.alloc;

@@ -43,7 +43,7 @@ pub(crate) struct Common<'a> {
     pub(crate) acceptor: usize,
     pub(crate) clock: LoopClock,
     boards: BoardTable,
-    pub(crate) audiences: Slab<Audience>,
+    audiences: Slab<Audience>,
     list: BoardList,
     decoder: Decoder,
     /// Clients that are to be read on although the system reports nothing of them.
@@ -165,17 +165,15 @@ impl<'a> Common<'a> {
         let _ = self.boards.take_in();
     }
 
-    /// Looks for news of the board of an audience.
-    pub(crate) fn look_for_news(&mut self, at: usize) -> Result<(), AllocError> {
-        match self.audiences.get_mut(at) {
-            Some(audience) => audience.refresh(&self.boards, &mut self.untold),
-            None => Ok(()),
+    /// Looks for news of the boards that are watched, and adds who is to be told to `untold`. If there is no memory for some of it, that is
+    /// tried again in the next turn.
+    pub(crate) fn look_for_news(&mut self) {
+        for at in 0..self.audiences.capacity() {
+            if let Some(audience) = self.audiences.get_mut(at) {
+                let _ = audience.refresh(&self.boards, &mut self.untold);
+            }
         }
-    }
-
-    /// Looks for changes of any board, if anybody watches them all.
-    pub(crate) fn look_for_changes(&mut self) -> Result<(), AllocError> {
         let now = self.now();
-        self.list.refresh(&self.boards, now, &mut self.untold)
+        let _ = self.list.refresh(&self.boards, now, &mut self.untold);
     }
 }

@@ -146,7 +146,8 @@ impl<'a> Turns<'a> {
         }
         self.clients.common.clock.look(clock);
         self.accept(poller.registry(), told);
-        self.clients.tell_all();
+        self.clients.common.look_for_news();
+        self.clients.tell();
         // However long a turn took, or the program was suspended, no client is dropped for what it had sent in time.
         if self.heard_by > self.looked_at {
             self.looked_at = self.heard_by;
