@@ -5,7 +5,7 @@ ghost use Rattle.std.specs.List.{position};
 ghost use Rattle.relay_core.specs.Name.{same_name};
 ghost use Rattle.relay_hall.specs.Reading.{last_of};
 ghost use Rattle.rtrb.specs.Ring.{received};
-ghost use Rattle.watch_port.specs.Copies.{HasTaken, changed_at, copied_after, copy_of, ended_by, nothing_told, played_by, shown_by, summary_of};
+ghost use Rattle.watch_port.specs.Copies.{HasTaken, changed_at, copied_after, ended_by, nothing_told, played_by, shown_by, summary_of};
 
 use crate::board_event::{BoardEvent, Progress};
 use c960_board::Move;
@@ -86,32 +86,6 @@ fn end_at(boards: &mut Vec<BoardCopy>, at: usize, outcome: Outcome)
     }
 }
 
-/// Opens the next board.
-///
-/// # Errors
-///
-/// There was no memory. Nothing has changed.
-fn open(
-    alloc: Global,
-    limits: &Limits,
-    boards: &mut Vec<BoardCopy>,
-    name: BoardName,
-    start: u16,
-) -> Result<(), AllocError>
-    ensures ok { OnOk result (boards.new.items ≡ boards.old.items ++ copy_of limits.now.plies name start ∷ []) }
-    ensures err { OnErr result (boards.new.items ≡ boards.old.items) }
-{
-    let Ok(game) = Game::open(alloc, start, limits.plies()) else {
-        return Err(AllocError);
-    };
-    boards.push(BoardCopy {
-        name,
-        game,
-        outcome: None,
-    })?;
-    Ok(())
-}
-
 /// Does with boards what was told.
 ///
 /// # Errors
@@ -127,7 +101,16 @@ fn apply(
     ensures err { OnErr result (boards.new.items ≡ boards.old.items) }
 {
     match event {
-        BoardEvent::Opened(name, start) => return open(alloc, limits, boards, name, start),
+        BoardEvent::Opened(name, start) => {
+            let Ok(game) = Game::open(alloc, start, limits.plies()) else {
+                return Err(AllocError);
+            };
+            boards.push(BoardCopy {
+                name,
+                game,
+                outcome: None,
+            })?;
+        }
         BoardEvent::Played(at, m) => play_at(boards, usize::from(at), m),
         BoardEvent::Ended(at, outcome) => end_at(boards, usize::from(at), outcome),
     }
