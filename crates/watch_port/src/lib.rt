@@ -16,7 +16,6 @@ mod event_loop;
 mod feed;
 mod port;
 mod publisher;
-mod request;
 mod watch_connection;
 
 pub use board_table::{BoardCopy, BoardTable};

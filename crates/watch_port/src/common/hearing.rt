@@ -2,10 +2,10 @@
 
 use super::Common;
 use crate::client::{Client, Gone};
-use crate::request::take_request;
+use crate::watch_connection::Doing;
 use c960_game::Refusal;
 use relay_core::{Reply, Step};
-use relay_frames::{Breach, Event, outgoing};
+use relay_frames::{Breach, Code, Event, HeadSoFar, acceptance_of, head_so_far, outgoing};
 use relay_messages::{Answer, MessageFault, WatchCommand, encode};
 use server_loop::{Intake, Stage, receive};
 use std::alloc::AllocError;
@@ -59,13 +59,46 @@ impl<'a> Common<'a> {
         if client.says_no_more() {
             return Ok(());
         }
-        let used = take_request(client, bytes, self.now())?;
+        let used = self.take_request(client, bytes)?;
         let rest = bytes.get(used..).unwrap_or(&[]);
         client.connection.peer.feed(rest)?;
         self.answer(client)?;
         let is_midway = client.connection.peer.is_midway();
         client.deadlines.silence.hears(self.now(), is_midway);
         Ok(())
+    }
+
+    /// Takes what came from a client that sends its request. Returns how many of these bytes belong to the request. Once it is complete, it
+    /// is answered, and another stage begins: the client asks from then on. It leaves if its request is refused, and it is told so and
+    /// leaves if there was no room for it.
+    #[tactic(auto, unfolding(relay_frames::specs::Codes::may_be_sent))]
+    fn take_request(&self, client: &mut Client, bytes: &[u8]) -> Result<usize, AllocError> {
+        let connection = &mut client.connection;
+        let Doing::Comes(head) = &mut connection.doing else {
+            return Ok(0);
+        };
+        let seen = head.len();
+        head.extend_from_slice(bytes)?;
+        let (used, answer) = match head_so_far(head.as_slice(), seen) {
+            HeadSoFar::Part => return Ok(bytes.len()),
+            HeadSoFar::Whole(end) => (end.saturating_sub(seen), acceptance_of(&head[..end])),
+            HeadSoFar::Refused(refusal) => (bytes.len(), Err(refusal)),
+        };
+        match answer {
+            Ok(acceptance) => {
+                acceptance.write(&mut connection.output)?;
+                if !client.has_room {
+                    connection.close(Code::AGAIN)?;
+                }
+            }
+            Err(refusal) => {
+                connection.output.extend_from_slice(refusal.answer())?;
+                connection.is_leaving = true;
+            }
+        }
+        connection.doing = Doing::Asks;
+        client.deadlines.begins(self.now());
+        Ok(used)
     }
 
     /// Answers what a client has said, until it is owed what it has to be sent first, although it was written to. With a complete message
