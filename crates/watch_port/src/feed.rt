@@ -12,7 +12,6 @@ use relay_core::BoardName;
 use rtrb::{Producer, RingBuffer};
 use std::alloc::{AllocError, Global};
 use std::marker::Model;
-use std::mem;
 
 /// How many events a loop may have yet to take in. What is beyond that it is told later.
 const MOST_EVENTS: usize = 4096;
@@ -37,8 +36,6 @@ pub struct Feed {
     ring: Producer<BoardEvent, Global>,
     /// How far, of each board that it was told of.
     told: Vec<Progress>,
-    /// Whether the loop has yet to be woken.
-    is_fresh: bool,
 }
 
 impl Model for Feed {
@@ -101,7 +98,6 @@ impl Feed {
         let feed = Feed {
             ring,
             told: Vec::new(alloc),
-            is_fresh: false,
         };
         Ok((feed, BoardTable::new(alloc, receiver, limits)))
     }
@@ -120,13 +116,6 @@ impl Feed {
     {
         let told = self.told.get(usize::from(at));
         told.map_or(false, |told| told.is_over)
-    }
-
-    /// Whether the loop was told anything since the last such call.
-    pub(crate) fn take_fresh(&mut self) -> bool
-        ensures { self.new ≡ self.old }
-    {
-        mem::replace(&mut self.is_fresh, false)
     }
 
     /// Tells the loop of a board what it has not been told, in order, as far as there is room. Returns whether that is all.
@@ -180,7 +169,6 @@ impl Feed {
             return false;
         };
         note(&mut self.told, &event);
-        self.is_fresh = true;
         true
     }
 }

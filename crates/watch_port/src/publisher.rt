@@ -17,6 +17,8 @@ pub struct Publisher {
     has_changed: bool,
     /// Whether there was no room for some.
     is_behind: bool,
+    /// Whether the loops have yet to be woken. While one of them lacks room, all are woken at each new try.
+    is_fresh: bool,
     /// Room for the moves of a board.
     moves: Vec<Move>,
 }
@@ -29,6 +31,7 @@ impl Publisher {
             changed: [false; MOST_BOARDS as usize],
             has_changed: false,
             is_behind: false,
+            is_fresh: false,
             moves: Vec::new(alloc),
         }
     }
@@ -81,6 +84,7 @@ impl Publisher {
             moves: self.moves.as_slice(),
             outcome,
         };
+        self.is_fresh = true;
         let mut are_told = true;
         for feed in self.feeds.iter_mut() {
             are_told = feed.tell(&board) && are_told;
@@ -88,10 +92,8 @@ impl Publisher {
         Ok(are_told)
     }
 
-    /// Whether the loop of this feed was told anything since the last such call.
-    pub fn take_fresh(&mut self, feed: usize) -> bool {
-        self.feeds
-            .get_mut(feed)
-            .is_some_and(|feed| feed.take_fresh())
+    /// Whether the loops have to be woken: they were told something since the last such call, or that was tried.
+    pub fn take_fresh(&mut self) -> bool {
+        mem::replace(&mut self.is_fresh, false)
     }
 }
