@@ -14,8 +14,6 @@ pub(crate) struct Audience {
     pub(crate) tape: Tape,
     /// The keys of those that watch it.
     pub(crate) spectators: IndexSet<usize>,
-    /// The second in which somebody last left, or asked to follow. An audience that is empty is dropped soon after it.
-    pub(crate) left_at: u64,
     /// The place at which a spectator last joined, and the position there.
     last: Option<(u16, Position)>,
 }
@@ -27,7 +25,6 @@ impl Audience {
             board,
             tape: Tape::new(alloc),
             spectators: IndexSet::new(alloc),
-            left_at: 0,
             last: None,
         }
     }

@@ -114,7 +114,6 @@ impl<'a> Common<'a> {
         let Some(audience) = self.audiences.get_mut(at) else {
             return Ok(Some(Refusal::NoSuchBoard));
         };
-        audience.left_at = self.clock.seconds();
         audience.refresh(&self.boards, &mut self.untold)?;
         let Some(spectator) = audience.join(&self.boards, from)? else {
             return Ok(Some(Refusal::NotYet));
@@ -140,7 +139,6 @@ impl<'a> Common<'a> {
             Doing::Watches(Watching { audience, .. }) => {
                 if let Some(audience) = self.audiences.get_mut(audience) {
                     audience.spectators.swap_remove(&client.key);
-                    audience.left_at = self.clock.seconds();
                 }
             }
             Doing::WatchesAll(_) => {
@@ -150,12 +148,11 @@ impl<'a> Common<'a> {
         }
     }
 
-    /// Drops the audiences that have been empty for about a second, and their tapes with them. If one were dropped at once, its tape would
-    /// be made again for each spectator of a board whose spectators come and go one after another.
+    /// Drops the audiences that are empty, and their tapes with them. It is called once a second. If a tape went with its last spectator, it
+    /// would be made again for each of several that come and go one after another.
     pub(crate) fn drop_audiences(&mut self) {
-        let now = self.now();
-        self.audiences.retain(|_, audience| !audience.spectators.is_empty()
-            || audience.left_at >= now);
+        self.audiences
+            .retain(|_, audience| !audience.spectators.is_empty());
     }
 
     // ---- News.
