@@ -138,13 +138,8 @@ impl Port {
 
     /// If there are far more connections here than elsewhere, the loop with the fewest accepts from now on.
     pub(crate) fn even_out(&self, at: usize) {
-        let (mut next, mut fewest) = (at, self.clients(at));
-        for other in 0..self.acceptors.len() {
-            let clients = self.clients(other);
-            if clients < fewest {
-                (next, fewest) = (other, clients);
-            }
-        }
+        let others = (0..self.acceptors.len()).map(|other| (self.clients(other), other));
+        let (fewest, next) = others.min().unwrap_or((u32::MAX, at));
         let most = fewest
             .saturating_add(fewest / PART_AHEAD)
             .saturating_add(MOST_AHEAD);
