@@ -1,6 +1,6 @@
 //! A file on a disk that keeps lines.
 
-ghost use Rattle.std.specs.Prelude.{◌≡◌, ◌≤◌, ◌-◌, nat_le, true, None};
+ghost use Rattle.std.specs.Prelude.{◌≡◌, ◌≤◌, ◌-◌, nat_le, None};
 
 use crate::stable_storage::StableStorage;
 use std::fs::File;
@@ -27,7 +27,7 @@ pub struct StableFile {
     written: u64,
     /// How many bytes it has: those, and then zeros.
     len: u64,
-    /// Whether the disk had room for zeros when they were put there last.
+    /// Whether there were zeros enough when it was opened, or the disk had room for them when they were put there last.
     has_room: bool,
 }
 
@@ -42,13 +42,13 @@ impl Model for StableFile {
 impl StableFile {
     /// A file that can be written, of which so many bytes are kept, and which has `len` bytes: all others are zeros.
     pub fn behind(file: File, kept: u64, len: u64) -> StableFile
-        ensures { result ≡ record { written = kept; length = len; has_room = true } }
+        ensures { result ≡ record { written = kept; length = len; has_room = nat_le 32768 (len - kept) } }
     {
         StableFile {
             file,
             written: kept,
             len,
-            has_room: true,
+            has_room: len.saturating_sub(kept) >= LEAST_ROOM_BYTES,
         }
     }
 

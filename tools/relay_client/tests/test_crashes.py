@@ -423,6 +423,25 @@ class Faults(Crashes):
 
     def test_a_disk_that_is_full_ends_the_server_and_with_room_all_is_there(self):
         """128 KiB have room for some 1,900 moves. Before the end no board is opened any more."""
+        after_refusal = self.fills(self.small_disk() / "games", ["No space left on device (os error 28)"])
+        self.assertGreater(after_refusal, 300)
+
+    def test_a_disk_that_is_full_once_a_torn_end_was_set_aside_has_room_for_what_goes_on(self):
+        """No zeros stand behind what is left of the file. They are put there at the start, and not when they are needed."""
+        crash, file = self.crash("whole"), self.small_disk() / "games"
+        self.assertTrue(crash.runs(Story()))
+        file.write_bytes(journals.without_zeros(crash.file.read_bytes()) + b"torn")
+        with Server(*MANY_PLIES, "--journal", str(file)) as server:
+            with contextlib.suppress(OSError), open(file.with_name("other"), "wb", buffering=0) as other:
+                while other.write(bytes(4096)):
+                    pass
+            with contextlib.closing(Connection(server.port)) as owner:
+                owner.asks(opens("behind"), OPENED)
+                for place, move in enumerate(long_game(100)):
+                    owner.asks(submits("behind", move), played(place))
+
+    def small_disk(self):
+        """A disk with 128 KiB."""
         if os.geteuid() != 0:
             self.skipTest("only root may mount a small disk")
         disk = self.room / "disk"
@@ -431,8 +450,7 @@ class Faults(Crashes):
         if subprocess.run(words, capture_output=True).returncode != 0:
             self.skipTest("no small disk can be mounted here")
         self.addCleanup(subprocess.run, ["umount", "-l", disk], check=True)
-        after_refusal = self.fills(disk / "games", ["No space left on device (os error 28)"])
-        self.assertGreater(after_refusal, 300)
+        return disk
 
     def test_a_file_that_may_not_grow_ends_the_server_and_with_room_all_is_there(self):
         """The system ends a process by a signal that writes more than it may."""
