@@ -8,15 +8,14 @@ use crate::port::Port;
 use c960_game::Limits;
 use mio::event::Event;
 use mio::{Registry, Token};
-use server_loop::{Arrival, LISTENER, LoopClock, LoopWaker, MOST_EVENTS, Poller, Reserve, WAKER};
+use server_loop::{
+    Arrival, LISTENER, LoopClock, LoopWaker, MOST_EVENTS, MOST_NEWCOMERS, Poller, Reserve, WAKER,
+};
 use std::alloc::Global;
 use std::io;
 use std::net::Net;
 use std::sync::{Arc, Wait};
 use std::time::{Clock, Duration};
-
-/// How many newcomers are accepted before the others have their turn.
-const MOST_NEWCOMERS: usize = 64;
 
 /// How many milliseconds a turn waits at most.
 const TURN_MILLIS: u64 = 1000;

@@ -36,9 +36,9 @@ impl Publisher {
         }
     }
 
-    /// The board of this index was opened, or its game has changed: loops are told of it by the next `publish`.
+    /// The board of this index was opened, or its game has changed: loops are told of it by the next `publish`, if there are any.
     pub fn marks(&mut self, at: usize) {
-        if at < self.changed.len() {
+        if at < self.changed.len() && !self.feeds.is_empty() {
             self.changed[at] = true;
             self.has_changed = true;
         }

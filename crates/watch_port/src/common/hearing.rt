@@ -7,14 +7,8 @@ use c960_game::Refusal;
 use relay_core::{Reply, Step};
 use relay_frames::{Breach, Code, Event, HeadSoFar, acceptance_of, head_so_far, outgoing};
 use relay_messages::{Answer, MessageFault, WatchCommand, encode};
-use server_loop::{Intake, Stage, receive};
+use server_loop::{Intake, MOST_PIECES, PIECE_BYTES, Stage, receive};
 use std::alloc::AllocError;
-
-/// How many pieces of what a client sends are read before the others have their turn.
-const MOST_PIECES: u32 = 4;
-
-/// How many bytes a piece has.
-const PIECE_BYTES: usize = 4096;
 
 impl<'a> Common<'a> {
     /// Reads what a client sends, for a while, and answers it. A piece that is not full was the last of what had come, except for the end:
