@@ -1,13 +1,10 @@
 //! The boards of a server, which all connections share.
 
-ghost use Rattle.relay_server.specs.Shared.{IsMade};
-
 use c960_game::Limits;
-use relay_core::{Reply, Step};
-use relay_hall::{Hall, Handed, Owner};
+use relay_hall::Hall;
 use std::alloc::{AllocError, Global};
+use std::sync::Mutex;
 use std::sync::atomic::AtomicU64;
-use std::sync::{Mutex, Wait};
 
 /// A hall behind a lock, and one bell, which is rung behind each step. The lock is taken for each question and each step. While it is held
 /// no socket is waited for, and no other lock is taken. What a hold finds, no contract says.
@@ -29,18 +26,5 @@ impl Registry {
             hall: Mutex::new(Hall::new(alloc, limits, 0)?),
             rings: AtomicU64::new(0),
         })
-    }
-
-    /// Makes a step for this speaker.
-    pub(crate) fn step<R: Wait>(
-        &self,
-        rt: &R,
-        speaker: &Owner,
-        step: &Step,
-    ) -> (Reply, Option<Handed>)
-        ensures { IsMade speaker.now step.now result.0 result.1 }
-    {
-        let mut hall = self.hall.lock(rt);
-        hall.step(speaker, step)
     }
 }

@@ -72,7 +72,8 @@ impl<R: Wait> Keeper for SharedKeeper<'_, R> {
     }
 
     fn step(&mut self, step: Step) -> Reply {
-        let (reply, handed) = self.registry.step(self.rt, &self.speaker, &step);
+        let mut hall = self.registry.hall.lock(self.rt);
+        let (reply, handed) = hall.step(&self.speaker, &step);
         self.ring();
         if handed.is_some() {
             self.handed = handed;
