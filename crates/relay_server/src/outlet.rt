@@ -60,14 +60,14 @@ impl<S: Read + Write + Drop> SocketOutlet<S> {
             }
         }
     }
+}
 
-    /// Sends a text.
-    ///
-    /// # Errors
-    ///
-    /// The device failed, or there was no memory.
-    pub(crate) fn say(&mut self, text: &str) -> Result<(), SendFault>
-        ensures written { OnOk result (Writes S.contents self.old.socket self.new.socket (write_step self.old.socket.conn (text_of text.now))) }
+impl<S: Read + Write + Drop> Outlet for SocketOutlet<S> {
+    ghost failures = { λ o. o.failures };
+
+    fn send(&mut self, text: &str) -> Result<(), SendFault>
+        ensures written { OnOk result (Writes S.contents self.old.socket self.new.socket
+            (write_step self.old.socket.conn (text_of text.now))) }
         ensures counts { Counts self.old.failures self.new.failures result }
     {
         let Ok(message) = Message::text(self.alloc, text) else {
@@ -75,14 +75,6 @@ impl<S: Read + Write + Drop> SocketOutlet<S> {
         };
         let done = self.socket.send(message);
         self.sent(done)
-    }
-}
-
-impl<S: Read + Write + Drop> Outlet for SocketOutlet<S> {
-    ghost failures = { λ o. o.failures };
-
-    fn send(&mut self, text: &str) -> Result<(), SendFault> {
-        self.say(text)
     }
 
     fn flush(&mut self) -> Result<(), SendFault> {

@@ -130,7 +130,7 @@ impl<R: Wait, S: Read + Write + Drop, G: Gate> Talk<'_, '_, R, S, G> {
         ensures { OnOk result (IsAnswered S.contents (option_map (λ t. t.now) text.entry) self.old.conn self.old.keeper self.old.outlet.socket self.new.conn self.new.keeper self.new.outlet.socket) }
     {
         match self.answer_of(text) {
-            Ok(answer) => self.outlet.say(answer.as_str()),
+            Ok(answer) => self.outlet.send(answer.as_str()),
             Err(AllocError) => Err(SendFault::OutOfMemory),
         }
     }
