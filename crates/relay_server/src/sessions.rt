@@ -151,19 +151,14 @@ impl<R: Wait, S: Read + Write + Drop, G: Gate> Talk<'_, '_, R, S, G> {
     }
 
     /// Pushes a board's moves to the connection until they end, then closes it. The follower leaves.
-    fn follow(&mut self, mut handed: Handed) -> SessionEnd {
-        let end = self.push(&mut handed);
-        let _ = handed.follower.leave();
-        end
-    }
-
-    /// Pushes what is taken of it to the connection until that ends, then closes it.
-    fn push(&mut self, handed: &mut Handed) -> SessionEnd
-        ensures { IsPushed handed.old result }
+    fn follow(&mut self, mut handed: Handed) -> SessionEnd
+        ensures { IsPushed handed result }
     {
         let keeper = &self.keeper;
-        let end = push_all(keeper.rt, self.alloc, &mut self.outlet, handed, keeper);
-        self.close_after(end)
+        let end = push_all(keeper.rt, self.alloc, &mut self.outlet, &mut handed, keeper);
+        let end = self.close_after(end);
+        let _ = handed.follower.leave();
+        end
     }
 
     /// Closes the connection after pushing that has ended so.
