@@ -66,17 +66,17 @@ fn end_unshaken<H: HandshakeRole>(error: &HandshakeError<H>) -> SessionEnd {
 
 /// A connection that has shaken hands.
 #[derive(Drop)]
-struct Talk<'a, 'g, R, S, G> {
+struct Talk<'a, R, S, G> {
     alloc: Global,
     conn: Conn,
     keeper: SharedKeeper<'a, R>,
     outlet: SocketOutlet<S>,
     /// The gate that hears of its first command, until that has come.
-    gate: Option<&'g G>,
+    gate: Option<&'a G>,
     connection: u32,
 }
 
-impl<R: Wait, S: Read + Write + Drop, G: Gate> Talk<'_, '_, R, S, G> {
+impl<R: Wait, S: Read + Write + Drop, G: Gate> Talk<'_, R, S, G> {
     /// Answers messages until the connection ends or follows, and then pushes what it follows.
     fn run(&mut self) -> SessionEnd {
         for _ in 0..MOST_MESSAGES {
@@ -179,15 +179,10 @@ impl<R: Wait, S: Read + Write + Drop, G: Gate> Talk<'_, '_, R, S, G> {
     }
 
     /// The connection is gone: what it follows is left, and its boards are ended as abandoned.
-    fn finish(self) {
-        let Talk {
-            conn,
-            mut keeper,
-            ..
-        } = self;
-        if let Some(handed) = keeper.take_handed() {
+    fn finish(mut self) {
+        if let Some(handed) = self.keeper.take_handed() {
             let _ = handed.follower.leave();
         }
-        conn.finish(&mut keeper);
+        self.conn.finish(&mut self.keeper);
     }
 }
