@@ -1,11 +1,11 @@
 //! The boards that a loop shows: its own, as far as it was told of them.
 
-ghost use Rattle.std.specs.Prelude.{◌≡◌, ◌+◌, ◌∷◌, ◌++◌, [], length, slice_get, IfOk, OnErr, OnOk, true, false, option_map, Some, is_some};
+ghost use Rattle.std.specs.Prelude.{◌≡◌, ◌+◌, [], length, slice_get, IfOk, OnErr, OnOk, true, false, option_map, Some, is_some};
 ghost use Rattle.std.specs.List.{position};
 ghost use Rattle.relay_core.specs.Name.{same_name};
 ghost use Rattle.relay_hall.specs.Reading.{last_of};
 ghost use Rattle.rtrb.specs.Ring.{received};
-ghost use Rattle.watch_port.specs.Copies.{HasTaken, changed_at, copied_after, ended_by, nothing_told, played_by, shown_by, summary_of};
+ghost use Rattle.watch_port.specs.Copies.{HasTaken, copied_after, nothing_told, shown_by, summary_of};
 
 use crate::board_event::{BoardEvent, Progress};
 use c960_board::Move;
@@ -67,25 +67,6 @@ impl BoardCopy {
     }
 }
 
-/// This move was made on the board of this index. One that is not legal is none: no board has one.
-fn play_at(boards: &mut Vec<BoardCopy>, at: usize, m: Move)
-    ensures { boards.new.items ≡ changed_at (played_by m) at boards.old.items }
-{
-    if at < boards.len() {
-        let board = &mut boards[at];
-        let _ = board.game.play(m);
-    }
-}
-
-/// The game of the board of this index has ended.
-fn end_at(boards: &mut Vec<BoardCopy>, at: usize, outcome: Outcome)
-    ensures { boards.new.items ≡ changed_at (ended_by outcome) at boards.old.items }
-{
-    if at < boards.len() {
-        boards[at].outcome = Some(outcome);
-    }
-}
-
 /// Does with boards what was told.
 ///
 /// # Errors
@@ -111,8 +92,15 @@ fn apply(
                 outcome: None,
             })?;
         }
-        BoardEvent::Played(at, m) => play_at(boards, usize::from(at), m),
-        BoardEvent::Ended(at, outcome) => end_at(boards, usize::from(at), outcome),
+        // A move that is not legal is none: no board has one.
+        BoardEvent::Played(at, m) if usize::from(at) < boards.len() => {
+            let board = &mut boards[usize::from(at)];
+            let _ = board.game.play(m);
+        }
+        BoardEvent::Ended(at, outcome) if usize::from(at) < boards.len() => {
+            boards[usize::from(at)].outcome = Some(outcome);
+        }
+        BoardEvent::Played(_, _) | BoardEvent::Ended(_, _) => {}
     }
     Ok(())
 }

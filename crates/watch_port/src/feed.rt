@@ -1,8 +1,8 @@
 //! What one loop is told of boards: by a ring of its own, so that nobody waits for it.
 
 ghost use Rattle.std.specs.Prelude.{◌≡◌, ◌<◌, ◌∷◌, ◌++◌, [], length, vec_len, vec_capacity, IfOk, IsTrue, IsFalse, true};
-ghost use Rattle.watch_port.specs.Copies.{changed_at, nothing_told};
-ghost use Rattle.watch_port.specs.Telling.{IsPut, end_of, is_told_of_the_end, moves_told, one_more, opening_of, over, told_after, told_by};
+ghost use Rattle.watch_port.specs.Copies.{nothing_told};
+ghost use Rattle.watch_port.specs.Telling.{IsPut, end_of, is_told_of_the_end, moves_told, opening_of, told_after, told_by};
 
 use crate::board_event::{BoardEvent, Progress};
 use crate::board_table::BoardTable;
@@ -61,27 +61,14 @@ fn note(told: &mut Vec<Progress>, event: &BoardEvent)
             moves: 0,
             is_over: false,
         }),
-        BoardEvent::Played(at, _) => note_move(told, usize::from(at)),
-        BoardEvent::Ended(at, _) => note_end(told, usize::from(at)),
-    }
-}
-
-/// Notes that a move was told of the board of this index.
-fn note_move(told: &mut Vec<Progress>, at: usize)
-    ensures { told.new.items ≡ changed_at one_more at told.old.items }
-{
-    if at < told.len() {
-        let board = &mut told[at];
-        board.moves = board.moves.saturating_add(1);
-    }
-}
-
-/// Notes that the end was told of the board of this index.
-fn note_end(told: &mut Vec<Progress>, at: usize)
-    ensures { told.new.items ≡ changed_at over at told.old.items }
-{
-    if at < told.len() {
-        told[at].is_over = true;
+        BoardEvent::Played(at, _) if usize::from(at) < told.len() => {
+            let board = &mut told[usize::from(at)];
+            board.moves = board.moves.saturating_add(1);
+        }
+        BoardEvent::Ended(at, _) if usize::from(at) < told.len() => {
+            told[usize::from(at)].is_over = true;
+        }
+        BoardEvent::Played(_, _) | BoardEvent::Ended(_, _) => {}
     }
 }
 
