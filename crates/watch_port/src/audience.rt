@@ -1,6 +1,6 @@
 //! The spectators of one board, and the tape that they are sent.
 
-use crate::board_table::{BoardCopy, BoardTable};
+use crate::board_table::BoardTable;
 use c960_board::Position;
 use indexmap::IndexSet;
 use relay_watching::{SpectatorConnection, Tape};
@@ -29,7 +29,8 @@ impl Audience {
         }
     }
 
-    /// Puts on the tape what it lacks of its board. If that is anything, its spectators are added to `untold`.
+    /// Puts on the tape what it lacks of its board: the moves from its length on, and the end. If that is anything, its spectators are added
+    /// to `untold`.
     ///
     /// # Errors
     ///
@@ -45,9 +46,17 @@ impl Audience {
         let lacks_end = board.outcome.is_some() && !self.tape.is_over();
         if lacks_end || self.tape.len() < usize::from(board.game.len()) {
             untold.extend_from_slice(self.spectators.as_slice())?;
-            put_on(&mut self.tape, board)?;
         }
-        Ok(())
+        for place in place_of(self.tape.len())..board.game.len() {
+            match board.game.move_at(place) {
+                Some(m) if !self.tape.is_over() && self.tape.len() < 65536 => self.tape.push(m)?,
+                _ => break,
+            }
+        }
+        match board.outcome {
+            Some(outcome) if !self.tape.is_over() => self.tape.finish(outcome),
+            _ => Ok(()),
+        }
     }
 
     /// A connection for a spectator that joins at a place of the tape, or at its end. There is none if its board has not reached that
@@ -83,22 +92,4 @@ impl Audience {
 /// The place behind so many moves, the last one if there are more.
 fn place_of(moves: usize) -> u16 {
     u16::try_from(moves).unwrap_or(u16::MAX)
-}
-
-/// Puts on a tape what it lacks of its board: the moves from its length on, and the end.
-///
-/// # Errors
-///
-/// There was no memory. Some of it may be there.
-fn put_on(tape: &mut Tape, board: &BoardCopy) -> Result<(), AllocError> {
-    for place in place_of(tape.len())..board.game.len() {
-        match board.game.move_at(place) {
-            Some(m) if !tape.is_over() && tape.len() < 65536 => tape.push(m)?,
-            _ => break,
-        }
-    }
-    match board.outcome {
-        Some(outcome) if !tape.is_over() => tape.finish(outcome),
-        _ => Ok(()),
-    }
 }
