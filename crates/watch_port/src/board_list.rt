@@ -117,16 +117,12 @@ impl BoardList {
     /// There was no memory. Then nothing was appended.
     pub(crate) fn put_changes(&self, after: u64, output: &mut Vec<u8>) -> Result<(), AllocError> {
         let mut length = 0usize;
-        for entry in self.entries.iter() {
-            if entry.change > after {
-                length = length.saturating_add(entry.frame.len());
-            }
+        for entry in self.entries.iter().filter(|entry| entry.change > after) {
+            length = length.saturating_add(entry.frame.len());
         }
         output.reserve(length)?;
-        for entry in self.entries.iter() {
-            if entry.change > after {
-                output.extend_from_slice(entry.frame.as_slice())?;
-            }
+        for entry in self.entries.iter().filter(|entry| entry.change > after) {
+            output.extend_from_slice(entry.frame.as_slice())?;
         }
         Ok(())
     }

@@ -149,12 +149,9 @@ impl Feed {
         ensures put { IsTrue result → self.new ≡ self.old ++ event ∷ [] }
         ensures full { IsFalse result → self.new ≡ self.old }
     {
-        if self.told.reserve(1).is_err() {
+        if self.told.reserve(1).is_err() || self.ring.push(event).is_err() {
             return false;
         }
-        let Ok(()) = self.ring.push(event) else {
-            return false;
-        };
         note(&mut self.told, &event);
         true
     }

@@ -175,11 +175,7 @@ impl WatchConnection {
     fn output_left(&self) -> &[u8]
         ensures { result.now ≡ output_left self.now }
     {
-        if self.written <= self.output.len() {
-            &self.output[self.written..]
-        } else {
-            &[]
-        }
+        self.output.get(self.written..).unwrap_or(&[])
     }
 
     /// The first `n` of the bytes offered were written.
@@ -232,11 +228,9 @@ impl WatchConnection {
 
     /// Whether everything that it will ever be sent is written.
     pub(crate) fn is_done(&self, tape: Option<&Tape>) -> bool {
-        if let (Doing::Watches(watching), Some(tape)) = (&self.doing, tape) {
-            if watching.spectator.is_done(tape) {
-                return true;
-            }
+        match (&self.doing, tape) {
+            (Doing::Watches(watching), Some(tape)) if watching.spectator.is_done(tape) => true,
+            _ => self.is_leaving && self.output.is_empty(),
         }
-        self.is_leaving && self.output.is_empty()
     }
 }

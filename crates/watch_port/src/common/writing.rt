@@ -59,10 +59,8 @@ impl<'a> Common<'a> {
 
     /// A client that watches all boards and was sent everything is sent with the others what has changed while that was written.
     fn tells_on(&mut self, client: &Client) {
-        if let Doing::WatchesAll(told) = client.connection.doing {
-            if told != self.list.changes {
-                self.list.told = 0;
-            }
+        if matches!(client.connection.doing, Doing::WatchesAll(told) if told != self.list.changes) {
+            self.list.told = 0;
         }
     }
 
