@@ -85,7 +85,10 @@ impl BoardList {
         let Some(board) = boards.board(at) else {
             return Ok(());
         };
-        let made_of = board.progress();
+        let made_of = Progress {
+            moves: board.game.len(),
+            is_over: board.outcome.is_some(),
+        };
         if let Some(entry) = self.entries.get(at) {
             // News of a game that goes on waits for the next second.
             if entry.made_of == made_of || entry.made_at >= now && !made_of.is_over {

@@ -1,14 +1,12 @@
 //! The boards that a loop shows: its own, as far as it was told of them.
 
-ghost use Rattle.std.specs.Prelude.{◌≡◌, ◌+◌, [], length, slice_get, IfOk, OnErr, OnOk, true, false, option_map, Some, is_some};
+ghost use Rattle.std.specs.Prelude.{◌≡◌, ◌+◌, [], length, slice_get, IfOk, OnErr, OnOk, true, false, option_map};
 ghost use Rattle.std.specs.List.{position};
 ghost use Rattle.relay_core.specs.Name.{same_name};
-ghost use Rattle.relay_hall.specs.Reading.{last_of};
 ghost use Rattle.rtrb.specs.Ring.{received};
 ghost use Rattle.watch_port.specs.Copies.{HasTaken, copied_after, nothing_told, shown_by, summary_of};
 
-use crate::board_event::{BoardEvent, Progress};
-use c960_board::Move;
+use crate::board_event::BoardEvent;
 use c960_game::{Game, Limits, Outcome};
 use relay_core::BoardName;
 use relay_messages::BoardSummary;
@@ -31,36 +29,16 @@ pub struct BoardCopy {
 }
 
 impl BoardCopy {
-    /// How far its game has come: it has changed if this has.
-    pub(crate) fn progress(&self) -> Progress
-        ensures moves { result.moves ≡ length self.now.game.log }
-        ensures over { result.is_over ≡ is_some self.now.outcome }
-    {
-        Progress {
-            moves: self.game.len(),
-            is_over: self.outcome.is_some(),
-        }
-    }
-
-    /// Its last move.
-    fn last(&self) -> Option<Move>
-        ensures { result ≡ last_of self.now.game.log }
-    {
-        match self.game.len() {
-            0 => None,
-            plies => self.game.move_at(plies - 1),
-        }
-    }
-
     /// Its present state.
     pub fn summary(&self) -> BoardSummary
         ensures { result ≡ summary_of self.now }
     {
+        let last = self.game.len().checked_sub(1);
         BoardSummary {
             board: self.name,
             start: self.game.start(),
             position: self.game.position(),
-            last: self.last(),
+            last: last.and_then(|place| self.game.move_at(place)),
             plies: self.game.len(),
             outcome: self.outcome,
         }
