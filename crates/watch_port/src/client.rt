@@ -2,6 +2,7 @@
 
 use crate::watch_connection::{Doing, WatchConnection};
 use mio::net::TcpStream;
+use relay_frames::MOST_OUTPUT;
 use relay_watching::Tape;
 use server_loop::{Deadlines, Delivery, Stage, Written, write_once};
 use std::alloc::AllocError;
@@ -67,7 +68,7 @@ impl Client {
     /// Whether it is not heard now, because too much is kept for it, or because it is still owed what it has to be sent first. It is heard
     /// again once that is written.
     pub(crate) fn is_deaf(&mut self) -> bool {
-        let is_deaf = self.connection.is_owed_first() || self.connection.is_full();
+        let is_deaf = self.connection.is_owed_first() || self.connection.output.len() > MOST_OUTPUT;
         if is_deaf {
             self.is_full = true;
             self.deadlines.silence.owes_no_rest();

@@ -29,12 +29,9 @@ impl<'a> Clients<'a> {
     pub(crate) fn enters(&mut self, registry: &Registry, mut stream: TcpStream) {
         let key = self.each.vacant_key();
         let interest = Interest::READABLE | Interest::WRITABLE;
-        if registry
-            .register(&mut stream, Token(key), interest)
-            .is_err()
-        {
+        let Ok(()) = registry.register(&mut stream, Token(key), interest) else {
             return;
-        }
+        };
         let common = &self.common;
         let client = Client {
             stream,

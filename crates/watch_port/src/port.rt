@@ -118,11 +118,8 @@ impl Port {
     pub(crate) fn add(&mut self, registry: &Registry) -> io::Result<usize> {
         let at = self.acceptors.len();
         let interest = if at == 0 { ACCEPTS } else { RESTS };
-        registry.register(
-            &mut SourceFd(&self.listener.as_raw_fd()),
-            LISTENER,
-            interest,
-        )?;
+        let listener = self.listener.as_raw_fd();
+        registry.register(&mut SourceFd(&listener), LISTENER, interest)?;
         let acceptor = Acceptor {
             registry: registry.try_clone()?,
             clients: AtomicU32::new(0),
@@ -183,10 +180,8 @@ impl Port {
 
     /// Sets what is reported to the loop of this one.
     fn set(&self, at: usize, interest: Interest) -> io::Result<()> {
-        let acceptor = self.acceptors.get(at).ok_or(ErrorKind::NotFound)?;
+        let registry = &self.acceptors.get(at).ok_or(ErrorKind::NotFound)?.registry;
         let listener = self.listener.as_raw_fd();
-        acceptor
-            .registry
-            .reregister(&mut SourceFd(&listener), LISTENER, interest)
+        registry.reregister(&mut SourceFd(&listener), LISTENER, interest)
     }
 }

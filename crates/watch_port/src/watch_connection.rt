@@ -5,7 +5,7 @@ ghost use Rattle.relay_watching.specs.Progress.{WasSent, after_write, offered};
 ghost use Rattle.relay_watching.specs.Promised.{Joining};
 ghost use Rattle.watch_port.specs.Connections.{HasWrittenOutput, HasWrittenTape, has_no_output, is_next, is_tapes_turn, is_within, output_left, watched};
 
-use relay_frames::{Code, MOST_OUTPUT, Peer, outgoing};
+use relay_frames::{Code, Peer, outgoing};
 use relay_watching::{SpectatorConnection, Tape};
 use std::alloc::{AllocError, Global};
 
@@ -98,11 +98,6 @@ impl WatchConnection {
             Doing::WatchesAll(told) => *told == 0,
             Doing::Comes(_) | Doing::Asks => false,
         }
-    }
-
-    /// Whether so much output is kept that it is not heard until that is written.
-    pub(crate) fn is_full(&self) -> bool {
-        self.output.len() > MOST_OUTPUT
     }
 
     /// Puts a close with this code behind its output, after which it leaves.

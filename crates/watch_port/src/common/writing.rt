@@ -70,11 +70,8 @@ impl<'a> Common<'a> {
             return Ok(());
         }
         client.is_full = false;
-        let is_midway = client.connection.peer.is_midway();
-        client
-            .deadlines
-            .silence
-            .is_heard_again(self.now(), is_midway);
+        let (now, is_midway) = (self.now(), client.connection.peer.is_midway());
+        client.deadlines.silence.is_heard_again(now, is_midway);
         self.stands_unread(client)
     }
 
