@@ -115,8 +115,8 @@ def no_number(value, name):
     return error(f"invalid value '{value}' for '{name}': invalid digit found in string")
 
 
-def no_address(value):
-    return error(f"invalid value '{value}' for '--watch <ADDRESS:PORT>': invalid socket address syntax", "serve [OPTIONS]")
+def no_address(value, why="invalid socket address syntax"):
+    return error(f"invalid value '{value}' for '--watch <ADDRESS:PORT>': {why}", "serve [OPTIONS]")
 
 
 def out_of_range(value, name, least, most):
@@ -160,6 +160,7 @@ TEXTS = [
     *[(("serve", "--watch", value), no_address(value))
       for value in ("x", "", "9601", "127.0.0.1", "localhost:9601", "127.0.0.1:65536", "127.0.0.01:9601", "256.0.0.1:9601", "::1:9601",
                     "[::1]")],
+    *[(("serve", "--watch", value), no_address(value, "the port is 0")) for value in ("127.0.0.1:0", "[::1]:0")],
     *[(("serve", "--watch=*:9601", *more), no_address("*:9601")) for more in ((), ("--watch-threads", "64"), ("--watch-most", "1000000"))],
     *[(("serve", "--forever", *given),
        error("the argument '--connections <connections>' cannot be used with '--forever'", "serve [OPTIONS]"))

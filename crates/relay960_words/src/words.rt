@@ -272,7 +272,13 @@ fn address_of(alloc: Global, text: &str) -> Result<SocketAddr, Error>
     ensures { IfOk result (IsSocketText text.now) }
 {
     match text.parse::<SocketAddr>() {
-        Ok(address) => Ok(address),
+        Ok(address) if address.port() > 0 => Ok(address),
+        Ok(_) => {
+            let message = format!(in alloc;
+                "invalid value '{text}' for '--watch <ADDRESS:PORT>': the port is 0"
+            )?;
+            Err(serve_error(alloc, ErrorKind::ValueValidation, message.as_str()))
+        }
         Err(error) => {
             let message = format!(in alloc;
                 "invalid value '{text}' for '--watch <ADDRESS:PORT>': {error}"

@@ -29,8 +29,8 @@ impl Audience {
         }
     }
 
-    /// Puts on the tape what it lacks of its board: the moves from its length on, and the end. If that is anything, its spectators are added
-    /// to `untold`.
+    /// Puts on the tape what it lacks of its board: the moves from its length on, and the end. If that is anything, its spectators are
+    /// added to `untold`.
     ///
     /// # Errors
     ///

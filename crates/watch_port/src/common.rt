@@ -148,8 +148,8 @@ impl<'a> Common<'a> {
         }
     }
 
-    /// Drops the audiences that are empty, and their tapes with them. It is called once a second. If a tape went with its last spectator, it
-    /// would be made again for each of several that come and go one after another.
+    /// Drops the audiences that are empty, and their tapes with them. It is called once a second. If a tape went with its last spectator,
+    /// it would be made again for each of several that come and go one after another.
     pub(crate) fn drop_audiences(&mut self) {
         self.audiences
             .retain(|_, audience| !audience.spectators.is_empty());
