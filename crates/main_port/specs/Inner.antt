@@ -9,4 +9,4 @@ acceptor_of a = record { met = a.met; most = a.most; is_open = is_some a.listene
 -- no more were met than may be, and the listener is closed only when the last has come that may, or where serving may end before
 pub record IsAcceptor (a : Inside) : Type 0 where
   pub few : met_of (acceptor_of a) ≤ most_of a.most
-  pub open : is_some a.listener ≡ false → a.may_end ≡ false → is_full (acceptor_of a) ≡ true
+  pub closed : is_some a.listener ≡ false → a.may_end ≡ false → is_full (acceptor_of a) ≡ true

@@ -65,8 +65,8 @@ impl Backoff {
         ensures ok { OnOk result (self.new ≡ self.old ++ (record { key = key; until = end_of (start_of now key) refused }) ∷ []) }
         ensures err { OnErr result (self.new ≡ self.old) }
     {
-        // Some begin later than others. Else the pauses of a crowd that asks again and again would all be over at once, and its answers would
-        // keep the processors for that long.
+        // Some begin later than others. Else the pauses of a crowd that asks again and again would all be over at once, and its answers
+        // would keep the processors for that long.
         let since = now.saturating_add(key % SPREAD_MILLIS);
         let pause = (u64::from(refused) * PAUSE_MILLIS).min(MOST_PAUSE_MILLIS);
         // The millisecond that had begun does not count.
