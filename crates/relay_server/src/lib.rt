@@ -3,6 +3,7 @@
 //! written to be read against the rules of a session, and has no keys, no grace, no log and no bound on how long a peer may take.
 #![tactic(auto)]
 
+mod board_bell;
 mod ends;
 mod gates;
 mod outlet;

@@ -3,6 +3,7 @@
 ghost use Rattle.std.specs.Prelude.{◌≡◌, IfOk, OnOk, option_map, string_bytes};
 ghost use Rattle.relay_server.specs.Talking.{IsAnswer, IsAnswered, IsPushed, session_end};
 
+use crate::board_bell::BoardBell;
 use crate::ends::SessionEnd;
 use crate::outlet::SocketOutlet;
 use crate::registry::Registry;
@@ -151,14 +152,22 @@ impl<R: Wait, S: Read + Write + Drop, G: Gate> Talk<'_, R, S, G> {
     }
 
     /// Pushes a board's moves to the connection until they end, then closes it. The follower leaves.
-    fn follow(&mut self, mut handed: Handed) -> SessionEnd
-        ensures { IsPushed handed result }
-    {
-        let keeper = &self.keeper;
-        let end = push_all(keeper.rt, self.alloc, &mut self.outlet, &mut handed, keeper);
-        let end = self.close_after(end);
+    fn follow(&mut self, mut handed: Handed) -> SessionEnd {
+        let end = match self.keeper.bell_of(&handed.board) {
+            Some(bell) => self.push(&mut handed, &bell),
+            // Each board has a bell.
+            None => SessionEnd::Failed,
+        };
         let _ = handed.follower.leave();
         end
+    }
+
+    /// Pushes what is taken of it to the connection until that ends, then closes it.
+    fn push(&mut self, handed: &mut Handed, bell: &BoardBell<'_, R>) -> SessionEnd
+        ensures { IsPushed handed.old result }
+    {
+        let end = push_all(bell.rt, self.alloc, &mut self.outlet, handed, bell);
+        self.close_after(end)
     }
 
     /// Closes the connection after pushing that has ended so.

@@ -1,20 +1,20 @@
-//! The keeper of a session, which asks the registry and is its bell.
+//! The keeper of a session, which asks the registry.
 
 ghost use Rattle.std.specs.Prelude.{◌≡◌, None};
 
+use crate::board_bell::BoardBell;
 use crate::registry::Registry;
 use relay_core::{BoardName, Reply, Step};
 use relay_hall::{Handed, Owner};
-use relay_pushing::{Bell, Keeper};
+use relay_pushing::Keeper;
 use std::marker::Model;
 use std::sync::Wait;
-use std::sync::atomic::Ordering;
 
 /// A registry as the keeper of one connection, which has no key: what it opened belongs to it, and nothing else does. It keeps what was
 /// handed out to the connection until that is taken. Contracts see a `KeeperState`.
 #[derive(Drop)]
 pub(crate) struct SharedKeeper<'a, R> {
-    pub(crate) rt: &'a R,
+    rt: &'a R,
     registry: &'a Registry,
     speaker: Owner,
     /// The follower of the last accepted follow, until it is taken.
@@ -50,6 +50,13 @@ impl<'a, R: Wait> SharedKeeper<'a, R> {
     {
         self.handed.take()
     }
+
+    /// The bell of the board of this name, if there is such a board.
+    pub(crate) fn bell_of(&self, board: &BoardName) -> Option<BoardBell<'a, R>> {
+        let at = self.registry.hall.lock(self.rt).place_of(board)?;
+        let rings = self.registry.rings.get(at)?;
+        Some(BoardBell { rt: self.rt, rings })
+    }
 }
 
 impl<R: Wait> Keeper for SharedKeeper<'_, R> {
@@ -72,35 +79,10 @@ impl<R: Wait> Keeper for SharedKeeper<'_, R> {
     }
 
     fn step(&mut self, step: Step) -> Reply {
-        let mut hall = self.registry.hall.lock(self.rt);
-        let (reply, handed) = hall.step(&self.speaker, &step);
-        self.ring();
+        let (reply, handed) = self.registry.step(self.rt, &self.speaker, &step);
         if handed.is_some() {
             self.handed = handed;
         }
         reply
-    }
-}
-
-impl<R: Wait> Bell for SharedKeeper<'_, R> {
-    fn count(&self) -> u64 {
-        self.registry.rings.load(Ordering::SeqCst)
-    }
-
-    fn ring(&self) {
-        self.registry.rings.fetch_add(1, Ordering::SeqCst);
-        self.registry.rings.wake_all();
-    }
-
-    fn wait(&self, heard: u64) -> u64 {
-        for _ in self.rt.forever() {
-            let now = self.count();
-            if now != heard {
-                return now;
-            }
-            let until = (heard & 0xffff_ffff) as u32;
-            self.registry.rings.park(self.rt, until);
-        }
-        unreachable!()
     }
 }
