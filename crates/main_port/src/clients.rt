@@ -13,6 +13,7 @@ use indexmap::IndexMap;
 use mio::net::TcpStream;
 use mio::{Interest, Registry, Token};
 use server_loop::Rank;
+use std::io;
 use std::sync::Wait;
 use std::time::Clock;
 
@@ -41,6 +42,19 @@ impl<'a, R: Wait + Clock, W: Watchers> Clients<'a, R, W> {
             looked_at: 0,
             unlooked: 0,
         }
+    }
+
+    /// Why the journal failed, if it has, and those who watch. All connections go, without a frame.
+    pub(crate) fn end(self) -> (Option<io::Error>, W)
+        ensures { result.0 ≡ self.entry.common.journal_failure }
+    {
+        let Clients { common, .. } = self;
+        let Common {
+            journal_failure,
+            watchers,
+            ..
+        } = common;
+        (journal_failure, watchers)
     }
 
     /// The millisecond of the loop's clock.

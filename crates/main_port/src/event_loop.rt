@@ -222,7 +222,7 @@ impl<'a, R: Wait + Clock, W: Watchers> EventLoop<'a, R, W> {
         self.clients.each.is_empty() || now >= self.ends_at.unwrap_or(u64::MAX)
     }
 
-    /// How serving ended, or why the journal failed, and those who watch. All connections go, without a frame.
+    /// How serving ended, or why the journal failed, and those who watch.
     fn end(self) -> (io::Result<ServeEnd>, W)
         ensures met { IfOk result.0 (λ end. end ≡ self.entry.acceptor.met) }
         ensures most { IfOk result.0 (λ end. IfSome self.entry.acceptor.most (λ n. end.served + end.failed ≤ n)) }
@@ -232,12 +232,17 @@ impl<'a, R: Wait + Clock, W: Watchers> EventLoop<'a, R, W> {
             → self.entry.acceptor.may_end ≡ false
             → IfOk result.0 (λ end. IfSome self.entry.acceptor.most (λ n. end.served + end.failed ≡ n)) }
     {
-        let clients = self.clients;
-        let common = clients.common;
-        let met = match common.journal_failure {
-            Some(error) if self.has_journal => Err(error),
-            _ => Ok(self.acceptor.end()),
+        let EventLoop {
+            acceptor,
+            clients,
+            has_journal,
+            ..
+        } = self;
+        let (failure, watchers) = clients.end();
+        let met = match failure {
+            Some(error) if has_journal => Err(error),
+            _ => Ok(acceptor.end()),
         };
-        (met, common.watchers)
+        (met, watchers)
     }
 }
