@@ -1,5 +1,6 @@
 """A round's games as PGN, which other chess programs read: one file, rewritten at each text of the relay."""
 
+import contextlib
 import os
 import pathlib
 import sys
@@ -10,6 +11,12 @@ from position import Position
 from relay_client.outcomes import ABANDONED, GOING_ON, outcome_of
 from relay_client.successors import shown
 from san import san
+
+
+def say(words):
+    """On standard error. That may be a file of a full disk: what cannot be said there ends nothing."""
+    with contextlib.suppress(OSError):
+        print(words, file=sys.stderr, flush=True)
 
 
 def quoted(value):
@@ -113,4 +120,4 @@ class Round:
             new.write_text("\n".join(it.text for it in self.shown()), encoding="utf-8")
             os.replace(new, self.path)
         except OSError as fault:
-            print(f"{self.path} is not written: {fault}", file=sys.stderr)
+            say(f"{self.path} is not written: {fault}")

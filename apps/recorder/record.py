@@ -9,12 +9,12 @@ With --pgn it also writes the games of all its boards to one file that other che
 
 A record has one JSON text per line: first {"board":..,"record":1,"start":..}, with the players if they are given ("white", "black"), then
 the relay's texts. It is written through to the disk after each move, so it is whole up to the last move that came, and web/table.html
-resumes the game from it. It waits for a board that is not open yet, and asks for it again on the same connection: the relay accepts a
-limited number (--connections). After a lost connection it follows from the first move again and compares what it receives with what it has:
-if the relay was restarted, another game may have the board's name, and nothing of that is added. It ends with the game (status 0), if the
-relay no longer gives the first moves (1), if the file exists already (1), after --tries in a row that brought nothing new (2), or if the
-board has another game than the record (3). If nothing came, it leaves no file. With several boards it ends when all have ended, with the
-highest status.
+resumes the game from it. If that fails (the disk is full), it is tried again as after a lost connection. It waits for a board that is not
+open yet, and asks for it again on the same connection: the relay accepts a limited number (--connections). After a lost connection it
+follows from the first move again and compares what it receives with what it has: if the relay was restarted, another game may have the
+board's name, and nothing of that is added. It ends with the game (status 0), if the relay no longer gives the first moves (1), if the file
+exists already (1), after --tries in a row that brought nothing new (2), or if the board has another game than the record (3). If nothing
+came, it leaves no file. With several boards it ends when all have ended, with the highest status.
 
 With --all it records each board that is there or is opened, to FOLDER/BOARD.record, until it is stopped. A name that exists already
 gets a number: b1.2.record. So does another game of a board. After --tries in a row that reported no board it ends with status 2.
@@ -39,7 +39,7 @@ ENDED, REFUSED, GIVEN_UP, ANOTHER, GONE = range(5)  # How a record ended: the st
 
 sys.path.append(str(pathlib.Path(__file__).resolve().parent.parent.parent / "tools"))
 
-from pgn import Round  # noqa: E402
+from pgn import Round, say  # noqa: E402
 from relay_client.line import Line, Refused  # noqa: E402
 from relay_client.names import first_name  # noqa: E402
 from starts import start_number  # noqa: E402
@@ -53,12 +53,17 @@ class Broken(Exception):
         self.status = status
 
 
+class Unwritten(Exception):
+    """Why lines are not in a record's file. None of them is, and they may be written again."""
+
+
 class Record:
     """A record's file, and how many of its moves the present connection has sent. `kept` is called with each text that it has kept, and
     `lost` where the relay no longer has its game."""
 
     def __init__(self, path, board, players=None):
-        self.file = open(path, "x", encoding="ascii")
+        self.file = open(path, "xb", buffering=0)
+        self.whole = 0  # How many bytes of its lines are written through.
         self.board = board
         self.players = players or {}
         self.kept, self.lost = lambda text: None, lambda: None
@@ -67,13 +72,28 @@ class Record:
         self.outcome = None
         self.told = 0
 
-    def write(self, value):
-        self.file.write(json.dumps(value, separators=(",", ":"), sort_keys=True) + "\n")
-        self.file.flush()
-        os.fsync(self.file.fileno())
+    def write(self, *values):
+        """Adds a line for each, through to the disk. If that fails, none of them stays."""
+        lines = "".join(json.dumps(it, separators=(",", ":"), sort_keys=True) + "\n" for it in values).encode("ascii")
+        try:
+            self.cut()
+            put = 0
+            while put < len(lines):
+                put += self.file.write(lines[put:])
+            os.fsync(self.file.fileno())
+        except OSError as fault:
+            with contextlib.suppress(OSError):
+                self.cut()
+            raise Unwritten(f"{self.file.name} is not written: {fault}") from fault
+        self.whole += len(lines)
 
-    def keep(self, text):
-        self.write(text)
+    def cut(self):
+        """Cuts the file back to what is whole, and goes on there."""
+        self.file.truncate(self.whole)
+        self.file.seek(self.whole)
+
+    def keep(self, text, *before):
+        self.write(*before, text)
         self.kept(text)
 
     def close(self):
@@ -93,8 +113,7 @@ class Record:
     def following(self, text):
         self.told = 0
         if self.first is None:
-            self.write({"board": self.board, "record": 1, "start": start_number(text["fen"]), **self.players})
-            self.keep(text)
+            self.keep(text, {"board": self.board, "record": 1, "start": start_number(text["fen"]), **self.players})
             self.first = text["fen"]
         elif text["fen"] != self.first:
             raise self.another(f"it begins with {text['fen']}, the record with {self.first}")
@@ -125,7 +144,7 @@ class Record:
         return Broken(ANOTHER, f"another game: {words}; nothing of it is in the record")
 
     def say(self, words):
-        print(f"{self.board}: {words}", file=sys.stderr)
+        say(f"{self.board}: {words}")
 
 
 async def keep(server, record, tries, wait, waits=True):
@@ -145,6 +164,8 @@ async def keep(server, record, tries, wait, waits=True):
                     return GONE
                 if not fault.later:
                     return REFUSED
+            except Unwritten as fault:
+                record.say(fault)
             except FAULTS as fault:
                 record.say(f"no connection: {fault}")
             except Broken as fault:
@@ -187,14 +208,14 @@ class Every:
                 try:
                     await line.boards(self.hear)
                 except Refused as fault:
-                    print(f"boards: {fault}", file=sys.stderr, flush=True)
+                    say(f"boards: {fault}")
                     if not fault.later:
                         return REFUSED
                 except FAULTS as fault:
-                    print(f"boards: no connection: {fault}", file=sys.stderr, flush=True)
+                    say(f"boards: no connection: {fault}")
                 failed = 0 if self.told else failed + 1
                 await asyncio.sleep(self.given.wait)
-            print(f"boards: given up after {failed} tries in a row that told of none", file=sys.stderr, flush=True)
+            say(f"boards: given up after {failed} tries in a row that told of none")
             return GIVEN_UP
         finally:
             await line.close()
@@ -210,16 +231,23 @@ class Every:
     async def keep(self, board):
         """Records a board until its game is over or the relay no longer has it. One that is reported on a new connection is compared with
         its record, and gets another record if its game is another."""
+        number = 1
         while board in self.again:
+            try:
+                if board not in self.records:
+                    self.records[board] = self.make(board, number)
+            except OSError as fault:
+                say(f"{board}: no record is begun: {fault}")
+                await asyncio.sleep(self.given.wait)
+                continue
             self.again.discard(board)
-            if board not in self.records:
-                self.records[board] = self.make(board, 1)
             record, number = self.records[board]
             status = await keep(self.given.server, record, self.given.tries, self.given.wait, waits=False)
             if status in (ANOTHER, GONE):
                 record.lost()
             if status == ANOTHER:
-                self.records[board] = self.make(board, number + 1)
+                del self.records[board]
+                number += 1
                 self.again.add(board)
         del self.tasks[board]  # Nothing is awaited between the last test and this, so no report is missed.
 
@@ -318,7 +346,7 @@ def main():
                 return asyncio.run(Every(given, maker.numbered).for_ever())
             records = [maker.record(board, file) for board, file in given.boards]
         except FileExistsError as fault:
-            print(f"{fault.filename} is there already", file=sys.stderr)
+            say(f"{fault.filename} is there already")
             return 1
         except KeyboardInterrupt:
             return 128 + signal.SIGINT

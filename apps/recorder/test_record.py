@@ -3,6 +3,7 @@ import asyncio
 import contextlib
 import json
 import pathlib
+import resource
 import sys
 import tempfile
 
@@ -20,12 +21,11 @@ class Recorder:
     """record.py on board b1, and the file that it writes."""
 
     @classmethod
-    async def start(cls, folder, address, *words):
+    async def start(cls, folder, address, *words, stderr=asyncio.subprocess.PIPE):
         self = cls()
         self.file = pathlib.Path(folder, "b1.record")
         self.process = await asyncio.create_subprocess_exec(
-            "/usr/bin/python3", str(HERE / "record.py"), address, "b1", str(self.file), "--wait", "0.1", *words,
-            stderr=asyncio.subprocess.PIPE)
+            "/usr/bin/python3", str(HERE / "record.py"), address, "b1", str(self.file), "--wait", "0.1", *words, stderr=stderr)
         return self
 
     async def until(self, moves):
@@ -45,7 +45,7 @@ class Recorder:
         had = [json.loads(it) for it in self.file.read_text().splitlines()]
         assert self.process.returncode == status, (self.process.returncode, said)
         assert had == texts, (had, texts)
-        return said.decode()
+        return said.decode() if said else ""
 
 
 async def until(test):
@@ -221,6 +221,52 @@ async def try_nothing(folder):
     await client.end("b1")
     recorder = await Recorder.start(folder, relay.address, "--tries", "2")
     await recorder.ended(0, 518, [], "agreed")
+
+
+async def try_full(folder):
+    """A disk that is full where the record begins and in mid-game, by a limit for the size of files. What failed is reported, the file ends
+    with a whole line meanwhile, and has each line once when there is room."""
+    relay = await Relay().start()
+    client = await Client.to(relay.address)
+    recorder = await Recorder.start(folder, relay.address)
+    await until(recorder.file.exists)
+
+    async def full_at(size, command, *words):
+        """Does this while the file can have so many bytes, and makes room after three tries."""
+        had = recorder.file.read_bytes()
+        hard = resource.prlimit(recorder.process.pid, resource.RLIMIT_FSIZE)[1]
+        resource.prlimit(recorder.process.pid, resource.RLIMIT_FSIZE, (size, hard))
+        await command("b1", *words)
+        said = []
+        while len(said) < 3:
+            line = await asyncio.wait_for(recorder.process.stderr.readline(), PATIENCE)
+            said += [line] if b"NoSuchBoard" not in line else []
+        assert said == [f"b1: {recorder.file} is not written: [Errno 27] File too large\n".encode()] * 3, said
+        await until(lambda: recorder.file.read_bytes() == had)
+        resource.prlimit(recorder.process.pid, resource.RLIMIT_FSIZE, (hard, hard))
+
+    await full_at(60, client.open, 518)  # The first line has 38 bytes.
+    await recorder.until(0)
+    await client.submit("b1", *MOVES[:2])
+    await recorder.until(2)
+    await full_at(recorder.file.stat().st_size + 10, client.submit, *MOVES[2:5])
+    await recorder.until(5)
+    await client.submit("b1", MOVES[5])
+    await client.end("b1")
+    await recorder.ended(0, 518, MOVES, "agreed")
+
+
+async def try_said_nowhere(folder):
+    """What it says goes to a file of a full disk: it records on."""
+    relay = await Relay().start()
+    with open("/dev/full", "wb") as full:
+        recorder = await Recorder.start(folder, relay.address, "--pgn", f"{folder}/none/round.pgn", stderr=full)
+    await asyncio.sleep(0.5)
+    client = await Client.to(relay.address)
+    await client.open("b1", 518)
+    await client.submit("b1", *MOVES)
+    await client.end("b1")
+    await recorder.ended(0, 518, MOVES, "agreed")
 
 
 async def try_file(folder):
@@ -481,6 +527,25 @@ async def try_all_replaced_anew(folder):
     await again.submit("a1_2", MOVES[0])
     await until(lambda: names_in(recorder.folder / "all.pgn") == [{"a1": "a1_2"}.get(it, it) for it in before])
     await recorder.has("a1.record", "a1", 518, MOVES[:2])
+    await recorder.end()
+
+
+async def try_all_unbegun(folder):
+    """Records that cannot be begun, since their folder is not there, are begun once they can."""
+    inside = pathlib.Path(folder, "records")
+    inside.mkdir()
+    relay = await Relay(watch=True).start()
+    recorder = await All.start(str(inside), relay)
+    await opened(relay, "b1", 518, [])
+    await recorder.has("b1.record", "b1", 518, [])
+    inside.rename(f"{folder}/elsewhere")
+    client = await opened(relay, "b2", 518, MOVES[:2])
+    await asyncio.sleep(1)
+    await client.submit("b2", *MOVES[2:])
+    inside.mkdir()
+    await recorder.has("b2.record", "b2", 518, MOVES)
+    await client.end("b2")
+    await recorder.has("b2.record", "b2", 518, MOVES, "agreed")
     await recorder.end()
 
 
