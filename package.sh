@@ -30,8 +30,16 @@ put 755 /usr/bin "$program"
 [ "$(basename "$program")" = relay960 ] || mv "$root/usr/bin/$(basename "$program")" "$root/usr/bin/relay960"
 put 644 /usr/share/man/man1 docs/relay960.1 docs/relay960-enter.1
 gzip -9n "$root"/usr/share/man/man1/*.1
-put 644 /usr/share/doc/relay960 docs/ARBITERS.md docs/DEPLOYMENT.md docs/PAGES.md docs/PROTOCOL.md docs/SCRIPTS.md
-put 644 /usr/share/doc/relay960/pictures docs/pictures/*.png
+# The documents stand as in the repository, with what they link: but for one page, whose own links lead to all the rest.
+doc=/usr/share/doc/relay960
+put 644 $doc/docs docs/ARBITERS.md docs/DEPLOYMENT.md docs/HEADLINE.md docs/LIVE.md docs/PAGES.md docs/PROTOCOL.md docs/PROVED.md \
+    docs/SCRIPTS.md docs/TERMS.md docs/TRUST.md
+sed -i 's/\[\([^]]*\)\](ARCHITECTURE\.md[^)]*)/\1/' "$root$doc/docs/PROVED.md"
+put 644 $doc/docs/pictures docs/pictures/*.png
+put 644 $doc/examples/clients examples/clients/follow.py examples/clients/follow.js
+for app in hall many_spectators metrics recorder; do put 644 "$doc/apps/$app" "apps/$app/README.md"; done
+mkdir "$root$doc/tools"
+ln -s ../../../../lib/relay960/relay_client "$root$doc/tools"
 put 644 /usr/share/relay960 apps/deployment/site.conf
 put 644 /usr/share/relay960/pages web/*.html web/*.js web/*.css
 put 755 /usr/lib/relay960 apps/many_spectators/feed.py apps/recorder/record.py apps/hall/hall.py \

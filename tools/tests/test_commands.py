@@ -499,6 +499,11 @@ class Package(unittest.TestCase):
                 for module in re.findall(r"^\s*(?:from|import) ([\w.]+)", path.read_text(), re.M):
                     if module in ours or module.startswith("relay_client."):
                         self.assertIn(module, there, path.name)
+            pages = list((root / "usr/share/doc/relay960").rglob("*.md"))
+            self.assertGreater(len(pages), 10)
+            for page in pages:
+                for link in re.findall(r'(?:\]\(|src=")([^)\s"#]+)', page.read_text()):
+                    self.assertTrue(":" in link or (page.parent / link).exists(), f"{page.relative_to(root)}: {link}")
 
 
 if __name__ == "__main__":
