@@ -77,7 +77,7 @@ def read_board(line):
     if not re.fullmatch(r"[A-Za-z0-9_-]{1,32}", name):
         raise Wrong(f"{name} is no board's name: it has 1 to 32 of A-Z, a-z, 0-9, _ and -")
     if ";" in players:
-        raise Wrong(f"{name}: a player's name has no ;")
+        raise Wrong(f"{name}: a player's name must have no ;")
     return name, "–".join(re.split(r"\s*[–—]\s*|\s+-+\s+", players, maxsplit=1))
 
 
