@@ -155,10 +155,12 @@ async def says(*lines):
 
 
 def try_health():
-    """The package's health check, through nginx."""
+    """The package's health check, through nginx, whose certificate it is told to trust, and where it does not."""
     words = [LIBRARY / "healthy", f"{SITE}/watch"]
     done = subprocess.run(words, env={**os.environ, "CURL_CA_BUNDLE": CERTIFICATE}, capture_output=True, text=True, timeout=20)
     assert (done.stdout, done.returncode) == ("ok\n", 0), done
+    done = subprocess.run(words, capture_output=True, text=True, timeout=20)
+    assert done.returncode == 1 and done.stdout.startswith(f"no answer from {SITE}/watch: SSL certificate problem: "), done
 
 
 async def main():
