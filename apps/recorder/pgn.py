@@ -89,6 +89,7 @@ class Round:
         if self.path.exists():
             raise FileExistsError(17, "", str(path))
         self.has_replaced = has_replaced
+        self.is_behind = False  # Whether it could not be written.
         self.games = []
 
     def begin(self, board, labels):
@@ -113,11 +114,13 @@ class Round:
         return [it for it in begun if it is not latest[it.board]] + shown(latest)
 
     def write(self):
-        """Writes a new file and puts it in the old one's place, so that nobody reads half of it. A file that cannot be written is reported,
-        and tried again at the next text: the record goes on."""
+        """Writes a new file and puts it in the old one's place, so that nobody reads half of it. One that cannot be written is reported:
+        the record goes on."""
         new = self.path.with_name(f"{self.path.name}.new")
         try:
             new.write_text("\n".join(it.text for it in self.shown()), encoding="utf-8")
             os.replace(new, self.path)
+            self.is_behind = False
         except OSError as fault:
+            self.is_behind = True
             say(f"{self.path} is not written: {fault}")

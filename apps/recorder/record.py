@@ -321,6 +321,20 @@ class Maker:
             record.kept, record.lost = functools.partial(self.together.take, game), functools.partial(self.together.lose, game)
         return record
 
+    async def beside(self, work):
+        """Does the work, and meanwhile writes the PGN again where it could not be written. Returns what the work does."""
+        again = asyncio.create_task(self.catch_up())
+        try:
+            return await work
+        finally:
+            again.cancel()
+
+    async def catch_up(self):
+        while self.together:
+            await asyncio.sleep(self.given.wait)
+            if self.together.is_behind:
+                self.together.write()
+
     def numbered(self, board, number):
         """A record of the folder, with the first number from this one on whose file is not there."""
         while True:
@@ -343,14 +357,14 @@ def main():
         try:
             maker = Maker(given, closing)
             if given.all:
-                return asyncio.run(Every(given, maker.numbered).for_ever())
+                return asyncio.run(maker.beside(Every(given, maker.numbered).for_ever()))
             records = [maker.record(board, file) for board, file in given.boards]
         except FileExistsError as fault:
             say(f"{fault.filename} is there already")
             return 1
         except KeyboardInterrupt:
             return 128 + signal.SIGINT
-        return asyncio.run(keep_all(given, records))
+        return asyncio.run(maker.beside(keep_all(given, records)))
 
 
 if __name__ == "__main__":

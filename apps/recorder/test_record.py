@@ -339,7 +339,7 @@ async def try_pgn_there(folder):
 
 
 async def try_pgn_unwritten(folder):
-    """If the PGN cannot be written, that is reported, and the record is whole."""
+    """If the PGN cannot be written, that is reported at each text at least, and the record is whole."""
     relay = await Relay().start()
     client = await Client.to(relay.address)
     await client.open("b1", 518)
@@ -347,7 +347,19 @@ async def try_pgn_unwritten(folder):
     await client.submit("b1", *MOVES[:2])
     await client.end("b1")
     said = await recorder.ended(0, 518, MOVES[:2], "agreed")
-    assert said.count("round.pgn is not written: ") == 4, said
+    assert said.count("round.pgn is not written: ") >= 4, said
+
+
+async def try_pgn_later(folder):
+    """A PGN that could not be written is written once it can, without another text."""
+    relay = await Relay(watch=True).start()
+    recorder = await All.start(folder, relay, "--pgn", f"{folder}/later/all.pgn")
+    await opened(relay, "a1", 518, MOVES[:2], "agreed")
+    await recorder.has("a1.record", "a1", 518, MOVES[:2], "agreed")
+    later = pathlib.Path(folder, "later")
+    later.mkdir()
+    await until(lambda: (later / "all.pgn").read_text().endswith("\n\n1. e4 e5 {Draw agreed.} 1/2-1/2\n"))
+    await recorder.end()
 
 
 class All:
