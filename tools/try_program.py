@@ -80,7 +80,7 @@ def main(words):
     if is_server and listens(port):
         sys.exit(f"try.sh: another program listens on port {port} already; take another one with --port")
     if is_server:
-        say(f"try.sh: compiling takes one to two minutes; then it serves on port {port} for at most {seconds} seconds")
+        say(f"try.sh: compiling takes two to four minutes; then it serves on port {port} for at most {seconds} seconds")
     for it in (signal.SIGTERM, signal.SIGHUP, signal.SIGINT):
         signal.signal(it, lambda number, _: sys.exit(128 + number))
     run = start(seconds, words, stdin=subprocess.DEVNULL if is_server else None)
