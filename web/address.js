@@ -44,10 +44,13 @@ const Address = (() => {
   /** The address of a channel. */
   const ofChannel = (server, name) => `${server.replace(/\/+$/, "")}/${name}`;
 
+  /** The players of an address that says no boards, each with the name of its board, as lines of a list. */
+  const lines = () => Lines.read((given.get("players") || "").split(";").join("\n"));
+
   /** The boards whose players the address names without saying which boards there are: { name, players }, each once. */
   function named() {
-    const lines = Lines.read((given.get("players") || "").split(";").join("\n"));
-    return lines.filter(({ name }, index) => isName(name) && lines.findIndex((it) => it.name === name) === index);
+    const all = lines();
+    return all.filter(({ name }, index) => isName(name) && all.findIndex((it) => it.name === name) === index);
   }
 
   /** The boards of a round, each once: { name, players }. A name that no board can have is left out. */
@@ -58,8 +61,16 @@ const Address = (() => {
       .filter(({ name }, index) => isName(name) && names.indexOf(name) === index);
   }
 
-  /** The names that the address gives and that no board can have. */
-  const wrongNames = () => parts("boards", ",").filter((it) => it !== "" && !isName(it));
+  /** What is wrong with the boards and the players that the address gives, in words, or "". */
+  function fault() {
+    const names = given.get("boards") ? parts("boards", ",") : lines().map((it) => it.name);
+    const wrong = names.filter((it) => it !== "" && !isName(it));
+    const isMore = given.get("boards") && parts("players", ";").slice(names.length).some((it) => it !== "");
+    return [
+      wrong.length === 0 ? "" : `No board can have this name: ${wrong.join(", ")}.`,
+      isMore ? "The address has more pairs of players than boards, so some may stand at a wrong board: a player's name has no ;." : "",
+    ].filter((it) => it !== "").join(" ");
+  }
 
   /* Signs that a person reads in an address stay as they are. */
   const written = (text) => encodeURIComponent(text).replace(/%(2C|2F|3A|3B)/g, decodeURIComponent);
@@ -80,6 +91,6 @@ const Address = (() => {
     ...ofEvent(),
   });
 
-  return { RELAY, IS_OF_SITE, source, saysSource: () => sourceKey() !== undefined, keysOf, ofChannel, boards, named, wrongNames, isName,
+  return { RELAY, IS_OF_SITE, source, saysSource: () => sourceKey() !== undefined, keysOf, ofChannel, boards, named, fault, isName,
     link, ofBoard, ofEvent, tags, get: (key) => given.get(key), has: (key) => given.has(key) };
 })();

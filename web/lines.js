@@ -26,7 +26,12 @@ const Lines = (() => {
       return ofNames;
     }
     const far = boards.find((it) => it.start !== null && !Position.isStart(it.start));
-    return far ? `${far.name}: the start number is from 0 to 959.` : "";
+    if (far !== undefined) {
+      return `${far.name}: the start number is from 0 to 959.`;
+    }
+    const ofPlayers = ({ players: { white, black } }) => Players.fault(white) || Players.fault(black);
+    const wrong = boards.find((it) => ofPlayers(it) !== "");
+    return wrong ? `${wrong.name}: ${ofPlayers(wrong)}.` : "";
   }
 
   /** The players of all boards as an address has them, or null where there are none. */

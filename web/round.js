@@ -316,9 +316,8 @@
     at("settings").open = isListed && !Address.saysSource() && !Address.IS_OF_SITE; // A site's front is its round.
   }
 
-  const wrong = Address.wrongNames();
   document.body.classList.toggle("hall", isHall);
-  warn(wrong.length === 0 ? "" : `No board can have this name: ${wrong.join(", ")}.`);
+  warn(Address.fault());
   fill();
   at("lines").addEventListener("input", check);
   at("source").addEventListener("submit", submit);

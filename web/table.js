@@ -208,6 +208,7 @@
     const board = at("name").value.trim();
     operator.open({ board, start: Number(at("start").value), players, anew: board === proposed, isAnother: board === proposed }, []);
   });
+  ["white", "black"].forEach((it) => at(it).addEventListener("input", () => at(it).setCustomValidity(Players.fault(at(it).value))));
   at("ending").addEventListener("click", (event) => {
     const button = event.target.closest("button");
     if (button && operator.isReady()) {

@@ -99,14 +99,14 @@
 
   /* Other windows. */
 
-  const wrong = Address.wrongNames();
+  const wrong = Address.fault();
 
-  /** Says which names no board can have, and that another window of the browser operates other boards of the relay. */
+  /** Says what is wrong with the address, and that another window of the browser operates other boards of the relay. */
   async function warn() {
     const own = tabs.map((it) => Names.first(it.name.textContent));
     const others = (await Claim.boards(server)).filter((it) => !own.includes(it));
     const words = [
-      wrong.length === 0 ? "" : `No board can have this name: ${wrong.join(", ")}.`,
+      wrong,
       others.length === 0 ? "" : `Another window of this browser operates boards of this relay: ${others.join(", ")}. `
         + "Keep all boards in one window.",
     ].filter((it) => it !== "").join(" ");

@@ -70,6 +70,8 @@ def missing():
 
 # The round.
 
+DASH = re.compile(r"\s*[–—]\s*|\s+-+\s+")
+
 
 def read_board(line):
     """The name of a board and its players, White first, with a dash between them as the page's address has it."""
@@ -77,8 +79,11 @@ def read_board(line):
     if not re.fullmatch(r"[A-Za-z0-9_-]{1,32}", name):
         raise Wrong(f"{name} is no board's name: it has 1 to 32 of A-Z, a-z, 0-9, _ and -")
     if ";" in players:
-        raise Wrong(f"{name}: a player's name must have no ;")
-    return name, "–".join(re.split(r"\s*[–—]\s*|\s+-+\s+", players, maxsplit=1))
+        raise Wrong(f"{name}: a player's name has no ;")
+    white, *black = DASH.split(players, maxsplit=1)
+    if black and DASH.search(black[0]):
+        raise Wrong(f"{name}: a player's name has no dash; a hyphen without spaces may stand in it")
+    return name, "–".join([white, *black])
 
 
 def read_round(file):

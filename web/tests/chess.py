@@ -18,7 +18,10 @@ from pychess.Utils.lutils.lmovegen import genAllMoves
 from relay_client import successors
 from relay_client.program import PROGRAM, Player, start_fen
 from relay_client.readers import Stockfish, games_in, is_same, read_by_pychess
-from scripts import Scripts
+from scripts import WEB, Scripts
+
+sys.path.append(str(WEB.parent / "apps" / "hall"))
+from hall import Wrong, read_board  # noqa: E402
 
 SEED = 960
 HELPERS = """
@@ -59,7 +62,9 @@ const next = (fen, move) => Position.write(Position.after(Position.read(fen), mo
 def chess():
     """The pages' scripts of chess, in node."""
     scripts = Scripts("position", "rules", "san", "last", "texts", "words", "names", "outcomes", "successors", "record", "draws", "players",
-                      "pgn")
+                      "pgn", "lines")
+    scripts.run('globalThis.location = { search: "", protocol: "file:", hostname: "" }')
+    scripts.run((WEB / "address.js").read_text(encoding="utf-8"))
     scripts.run(HELPERS)
     return scripts
 
@@ -683,6 +688,38 @@ def try_tables():
         for fen, move, san in WRITTEN:
             had = dict(pages.call("written", fen))[move]
             assert had == san, (fen, move, had)
+
+
+# Lines of a list, with the players of each that may stand there.
+LINES = [("r1 518 Carlsen, Magnus – Caruana", "Carlsen, Magnus", "Caruana"), ("r1 So - Ding", "So", "Ding"), ("r1", "", ""),
+         ("r1 0 Saint-Amant", "Saint-Amant", ""), ("r1 – Caruana", "", "Caruana"), ("518 So—Ding", "So", "Ding"),
+         ("r1 Vachier-Lagrave -- Nepomniachtchi", "Vachier-Lagrave", "Nepomniachtchi"), ("r1 O'Neil & Co – 100%", "O'Neil & Co", "100%")]
+NO_LINES = [("r1 Andr&eacute; Petit – Bauer", "r1: a player's name has no ;"), ("r1 So – Ding;", "r1: a player's name has no ;"),
+            ("r1 518 Smith – Jones – Brown", "r1: a player's name has no dash"), ("r1 So – Ding -- Li", "r1: a player's name has no dash"),
+            ("r1 So –– Ding", "r1: a player's name has no dash"), ("r.1 So – Ding", "r.1 is no board's name")]
+
+
+def try_lists():
+    """The forms of a round and hall.py read a list's line alike, or refuse it for the same reason; an address has all names of it."""
+    with chess() as pages:
+        for line, white, black in LINES:
+            name, players = read_board(line)
+            had = pages.run(f"(() => {{ const it = Lines.read({json.dumps(line)}); return [Lines.fault(it), Lines.named(it)]; }})()")
+            assert had == ["", f"{name} {players}".strip()], (line, had)
+            again = pages.run(f"Lines.read({json.dumps(had[1])})[0].players")
+            assert again == pages.run(f"Lines.read({json.dumps(line)})[0].players") == {"white": white, "black": black}, (line, again)
+        for line, words in NO_LINES:
+            had = pages.run(f"Lines.fault(Lines.read({json.dumps(line)}))")
+            assert had.startswith(words), (line, had)
+            try:
+                had = read_board(line)
+            except Wrong as fault:
+                assert str(fault).startswith(words), (line, fault)
+            else:
+                raise AssertionError((line, had))
+        # An address of before, in which nothing may be lost either.
+        had = pages.run('Players.read("Smith – Jones–Brown")')
+        assert had == {"white": "Smith", "black": "Jones–Brown"}, had
 
 
 def main():

@@ -318,7 +318,8 @@ async def try_form(browser):
     await page.fill("#server", relay.address)
     await page.choose("#kind", "relay")
     for lines, words in (("f1\nf/2", "f/2 is no board's name"), ("f1\nf2\nf1", "f1 stands here twice"),
-                         ("f_1\nf_2", "f_2 is the next name of another board here")):
+                         ("f_1\nf_2", "f_2 is the next name of another board here"), ("f1 A;B – C\nf2", "f1: a player's name has no ;"),
+                         ("f1\nf2 Smith – Jones - Brown", "f2: a player's name has no dash")):
         await page.fill("#lines", lines)
         await page.click("#source .main")
         assert words in await page.run('document.querySelector("#lines").validationMessage')
@@ -338,6 +339,11 @@ async def try_form(browser):
     await until_tiles(page, lambda them: [it["name"] for it in them] == ["f1"])
     assert await text(page, "#said") == "No board can have this name: f/2." and not page.faults, page.faults
     await page.close()
+    for given, words in (({"boards": "f1,f2", "players": "A;B–C;D–E"}, "The address has more pairs of players than boards"),
+                         ({"players": "f1 A;B–C;f2 D–E"}, "No board can have this name: B–C.")):
+        page = await browser.open(url("round.html", server=relay.address, **given))
+        assert words in await text(page, "#said") and not page.faults, (given, page.faults)
+        await page.close()
     await client.close()
 
 

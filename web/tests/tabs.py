@@ -285,7 +285,9 @@ async def try_tabs_from_disk(browser):
     relay = await Relay(grace=GRACE).start()
     page = await browser.open(url("tables.html", server=relay.address))
     for lines, words in (("f1\nf/2", "f/2 is no board's name"), ("f1\nf2\nf1", "f1 stands here twice"),
-                         ("f1 960", "f1: the start number is from 0 to 959")):
+                         ("f1 960", "f1: the start number is from 0 to 959"),
+                         ("f1 518 Andr&eacute; Petit – Bauer\nf2 518 Carla – Dora", "f1: a player's name has no ;"),
+                         ("f1\nf2 518 Smith – Jones – Brown", "f2: a player's name has no dash")):
         await page.fill("#lines", lines)
         await page.click("#source .main")
         assert words in await page.run('document.querySelector("#lines").validationMessage')
@@ -297,5 +299,10 @@ async def try_tabs_from_disk(browser):
     await page.click("#save-round")
     day = await today(page)
     assert (await page.run("saved"))[1] == "\n".join([pgn("d1", 518, "*", day), pgn("d2", 0, "*", day)]), await page.run("saved")
+    await page.go(url("tables.html", server=relay.address, boards="d1,d2", players="A;B–C;D–E"))
+    await page.until('document.querySelector("#said").textContent.startsWith("The address has more pairs of players than boards")')
+    await page.go(url("tables.html", server=relay.address, boards="d1,d2", players="A–B;"))
+    await until_stand(page, "No board open", "No board open")
+    assert await page.run('document.querySelector("#said").hidden')
     assert not page.faults, page.faults
     await page.close()
