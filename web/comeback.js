@@ -44,7 +44,8 @@ const createComeback = (own) => {
       view.state("stopped", "No connection to the relay. Gave up.");
       stop({ attempt: present });
     } else {
-      phase.go("lost", { attempt: { ...present, wasSent: present.wasSent || name === "opening" } });
+      const unanswered = present.unanswered + (name === "connecting" ? 0 : 1);
+      phase.go("lost", { attempt: { ...present, unanswered, wasSent: present.wasSent || name === "opening" } });
       view.state("lost", `No connection to the relay. Trying again in ${seconds} s.`);
       view.redraw();
     }

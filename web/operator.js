@@ -39,12 +39,13 @@ const createOperator = (view) => {
    *   isAlone   whether this page reopens the game by itself
    *   isAnother whether it is another game of its board, of which this page chose the name
    *   wasSent   whether the relay was asked for the board on a connection before
+   *   unanswered  how many connections were made and ended without an answer
    *   tried     how many names were taken
    *   waits     those between two tries
    */
   const attempt = (given) => ({
     resend: [], pending: null, correct: null, doubt: null, isBack: false, isFirst: false, isAlone: false, isAnother: false, wasSent: false,
-    tried: 0, waits: Link.waits(), ...given,
+    unanswered: 0, tried: 0, waits: Link.waits(), ...given,
   });
 
   /*
@@ -107,6 +108,12 @@ const createOperator = (view) => {
   /** Whether a move or an ending may be entered. */
   const isReady = () => phase.is("playing");
 
+  /** Whether the relay can be reached, and yet does not answer for the board: twice, since a connection may be lost once. */
+  function isUnanswered() {
+    const { attempt: present } = phase.now();
+    return present !== undefined && present.unanswered > 1;
+  }
+
   /** Whether the game is over by an end that somebody named, and so may be corrected. */
   const isCorrectable = () => phase.is("over") && Outcomes.isNamed(own.game.outcome);
 
@@ -127,6 +134,6 @@ const createOperator = (view) => {
     anyway: () => phase.take("anyway"),
     /** What the operator may do in spite of a doubt, in words, or null where there is none. */
     doubted: () => (phase.is("doubted") ? phase.now().label : null),
-    isIdle, isOpen, isReady, isCorrectable, moves, allMoves: own.allMoves, game: () => own.game,
+    isIdle, isOpen, isReady, isUnanswered, isCorrectable, moves, allMoves: own.allMoves, game: () => own.game,
   };
 };

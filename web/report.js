@@ -1,6 +1,9 @@
 "use strict";
-/* Tells the page of tabs (tables.js), in which an operator's page is a frame, how its board stands. `told()` gives that. */
-const createReport = (told) => {
+/*
+ * Tells the page of tabs (tables.js), in which an operator's page is a frame, how its board stands. `told()` gives that. That page says
+ * when it is the board's turn to be opened: `open()` is called then.
+ */
+const createReport = (told, open) => {
   const goal = self.origin === "null" ? "*" : self.origin; // Pages from disk have no origin that could be named.
   const isFrame = window.parent !== window;
   let timer = null;
@@ -11,6 +14,8 @@ const createReport = (told) => {
     window.parent.postMessage({ board: told() }, goal);
     timer = null;
   }
+
+  addEventListener("message", ({ source, data }) => isFrame && source === window.parent && data && data.open && open());
 
   /** Tells it when all that changes at once has changed. */
   return () => {

@@ -12,7 +12,7 @@
   const operator = createOperator({ ...page, state, begin, say, keep, opened, over, offer, kept, entered: controls, server, isAlone });
   const questions = createQuestions(at);
   const start = createStart(page);
-  const report = createReport(stand);
+  const report = createReport(stand, takeTurn);
   const submit = (move) => operator.enter({ cmd: "submit", move });
   const entry = createEntry({ page, questions, ready: operator.isReady, game: operator.game, say, submit });
   const anew = createAnew({
@@ -22,6 +22,7 @@
       operator.open({ board, start: from, players, anew: true }, moves.slice(0, count)),
   });
 
+  let waits = Address.get("open") === "turn"; // Whether the board is opened once it is its turn.
   let proposed = null; // The name that stands in the field behind an end.
 
   page.usableWhen(operator.isReady);
@@ -162,7 +163,8 @@
     const turn = origin !== null && outcome === null ? page.record().present().turn : null;
     const game = operator.game();
     const name = game ? game.board : at("name").value;
-    return { name, state: holder.dataset.state, text: holder.textContent, near: at("near").textContent, outcome, turn, game: saved() };
+    return { name, state: holder.dataset.state, text: holder.textContent, near: at("near").textContent, outcome, turn, game: saved(), waits,
+      isUnanswered: operator.isUnanswered() };
   }
 
   /** A game is corrected from an earlier position, to which the operator has gone back. */
@@ -231,7 +233,24 @@
     }
   });
 
-  /* table.html?server=ws://HOST:PORT&board=NAME&start=N&players=A–B fills the fields in; with &open it opens the board. */
+  /** Opens the board that the address names. */
+  function openNamed() {
+    if (at("opening").checkValidity()) {
+      at("opening").requestSubmit();
+    }
+  }
+
+  /** It is the board's turn, unless the operator has done something here before. */
+  function takeTurn() {
+    waits = false;
+    if (operator.game() === null) {
+      openNamed();
+    }
+    report();
+  }
+
+  /* table.html?server=ws://HOST:PORT&board=NAME&start=N&players=A–B fills the fields in; with &open it opens the board, with &open=turn
+   * once the page of tabs says so. */
   at("server").value = Address.get("server") || at("server").value;
   at("name").value = Address.get("board") || "";
   at("start").value = Address.get("start") || at("start").value;
@@ -243,7 +262,9 @@
   anew.list();
   restore();
   controls();
-  if (Address.has("open") && at("opening").checkValidity()) {
-    at("opening").requestSubmit();
+  if (waits) {
+    state("idle", "Opens after the boards before it");
+  } else if (Address.has("open")) {
+    openNamed();
   }
 })();

@@ -9,6 +9,8 @@
   const server = Address.get("server") || Address.RELAY;
   const OPENING = "sirvandu.opening"; // The address whose boards are to be opened when it is shown first, and not when it is loaded again.
   const LOOKS = 3000; // Milliseconds between two looks for other windows.
+  const LOADED = 10000; // Milliseconds behind a frame's loading in which its page tells something.
+  const goal = self.origin === "null" ? "*" : self.origin; // Pages from disk have no origin that could be named.
   const tabs = [];
 
   /* What is said of a board. */
@@ -94,7 +96,29 @@
         keep(tab, tab.told.game);
       }
       sum();
+      giveTurns();
     }
+  }
+
+  /* The turns. The boards of the form are opened in the order of the list, each once those before it were answered. */
+
+  /** Whether a board was opened or refused, or gets no answer, so that those behind it go on without it. */
+  const isAnswered = ({ told }) => told !== null && !told.waits && (told.isUnanswered || !["connecting", "lost"].includes(told.state));
+
+  function giveTurns() {
+    tabs.forEach((it) => { it.isDone = it.isDone || isAnswered(it); });
+    const first = tabs.findIndex((it) => !it.isDone);
+    tabs.filter(({ told, isDone }, index) => told !== null && told.waits && (isDone || index === first)).forEach(({ frame }) => {
+      frame.contentWindow.postMessage({ open: true }, goal);
+    });
+  }
+
+  /** A frame was loaded. What is there may be another page, of an error. */
+  function loaded(tab) {
+    setTimeout(() => {
+      tab.isDone = tab.isDone || tab.told === null;
+      giveTurns();
+    }, LOADED);
   }
 
   /* Other windows. */
@@ -153,7 +177,7 @@
     const frame = document.createElement("iframe");
     const names = make("span", "players", Players.written(players));
     const words = { name: make("b", "", name), players: names, stand: make("span", "stand", "") };
-    const tab = { button, panel, frame, ...words, told: null, wants: "", games: [] };
+    const tab = { button, panel, frame, ...words, told: null, wants: "", games: [], isDone: false };
     button.type = "button";
     button.id = `tab-${tabs.length}`;
     panel.id = `board-${tabs.length}`;
@@ -165,8 +189,9 @@
     button.addEventListener("click", () => show(tab));
     button.addEventListener("keydown", key);
     tab.frame.title = name;
+    tab.frame.addEventListener("load", () => loaded(tab));
     tab.frame.src = Address.link("table.html", {
-      server, board: name, start, players: Lines.players([{ players }]), ...Address.ofEvent(), open: opens ? "" : null,
+      server, board: name, start, players: Lines.players([{ players }]), ...Address.ofEvent(), open: opens ? "turn" : null,
     });
     tabs.push(tab);
     at("tabs").append(button);

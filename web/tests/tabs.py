@@ -6,6 +6,9 @@ import http.server
 import json
 import textwrap
 import threading
+import time
+
+import websockets
 
 from back import log_of
 from relay_client.client import Client
@@ -125,6 +128,67 @@ async def try_tabs_attention(browser):
         assert not page.faults, page.faults
         await page.close()
     await wire.cut()
+
+
+class Slow:
+    """A relay that is slow to open boards: it refuses o2, is gone for a while when it is asked for o3, and never answers for o5."""
+
+    async def __aenter__(self):
+        self.said, self.back = [], 0
+        self.server = await websockets.serve(self.listen, "127.0.0.1", 0, compression=None, ping_interval=None, process_request=self.greet)
+        self.address = f"ws://127.0.0.1:{self.server.sockets[0].getsockname()[1]}"
+        return self
+
+    async def greet(self, path, headers):
+        return (503, [], b"") if time.monotonic() < self.back else None
+
+    async def listen(self, socket, path):
+        with contextlib.suppress(websockets.ConnectionClosed):
+            async for said in socket:
+                command = json.loads(said)
+                if command["cmd"] == "open":
+                    await self.open(socket, command["board"])
+                else:
+                    await socket.send('{"reply":"refused","code":1,"name":"NoSuchBoard"}')
+
+    async def open(self, socket, board):
+        self.said.append(f"asked {board}")
+        if board == "o3" and not self.back:
+            self.back = time.monotonic() + 3
+            await socket.close()
+        elif board != "o5":
+            await asyncio.sleep(0.3)
+            self.said.append(f"told {board}")
+            await socket.send('{"reply":"refused","code":2,"name":"BoardExists"}' if board == "o2" else '{"reply":"opened"}')
+
+    async def __aexit__(self, *_):
+        self.server.close()
+        await self.server.wait_closed()
+
+
+async def try_tabs_order(browser):
+    """The boards of a list are opened in its order, each once the one before was answered, also when the relay was gone for a while. One
+    that gets no answer does not keep back those behind it, and any may be opened by hand before."""
+    async with Slow() as relay:
+        with site() as address:
+            page = await browser.open(f"{address}/tables.html?server={relay.address}")
+            await page.fill("#lines", "\n".join(f"o{number}" for number in range(1, 9)))
+            await page.click("#source .main")
+            await page.until(f'({TABS}[3] || {{}}).stand === "White to move"', 90)
+            words = ["asked o1", "told o1", "asked o2", "told o2", "asked o3", "asked o3", "told o3", "asked o4", "told o4"]
+            assert relay.said[:len(words)] == words, relay.said
+            stands = [it["stand"] for it in await page.run(TABS)]
+            assert stands[0] == stands[2] == "White to move" and stands[1] == "The board was not opened", stands
+            assert stands[5:] == 3 * ["Opens after the boards before it"], stands
+            await page.run(frame(6, 'document_.querySelector("#opening").requestSubmit()'))
+            await page.until(f'({TABS}[6] || {{}}).stand === "White to move"', 90)
+            assert relay.said[len(words):] == ["asked o5", "asked o7", "told o7"], relay.said
+            await page.until(f'({TABS}[7] || {{}}).stand === "White to move"', 90)
+            assert [it for it in relay.said if it != "asked o5"] == [*words, "asked o7", "told o7", "asked o6", "told o6", "asked o8",
+                                                                     "told o8"], relay.said
+            assert relay.said.count("asked o5") >= 2, relay.said
+            assert not page.faults, page.faults
+            await page.close()
 
 
 ROOM = """(() => {
