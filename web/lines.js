@@ -25,9 +25,10 @@ const Lines = (() => {
     if (ofNames !== "") {
       return ofNames;
     }
-    const far = boards.find((it) => it.start !== null && !Position.isStart(it.start));
+    const isFar = ({ start, players: { white } }) => (start !== null && !Position.isStart(start)) || /^\d+(\s|$)/.test(white);
+    const far = boards.find(isFar);
     if (far !== undefined) {
-      return `${far.name}: the start number is from 0 to 959.`;
+      return `${far.name}: the start number is from 0 to 959, and no player's name begins with a number.`;
     }
     const ofPlayers = ({ players: { white, black } }) => Players.fault(white) || Players.fault(black);
     const wrong = boards.find((it) => ofPlayers(it) !== "");

@@ -75,12 +75,14 @@ DASH = re.compile(r"\s*[–—]\s*|\s+-+\s+")
 
 def read_board(line):
     """The name of a board and its players, White first, with a dash between them as the page's address has it."""
-    name, players = re.fullmatch(r"(\S+)(?:\s+\d{1,3}(?=\s|$))?\s*(.*)", line).groups()
+    name, start, players = re.fullmatch(r"(\S+)(?:\s+(\d{1,3})(?=\s|$))?\s*(.*)", line).groups()
     if not re.fullmatch(r"[A-Za-z0-9_-]{1,32}", name):
         raise Wrong(f"{name} is no board's name: it has 1 to 32 of A-Z, a-z, 0-9, _ and -")
+    white, *black = DASH.split(players, maxsplit=1)
+    if int(start or 0) > 959 or re.match(r"\d+(\s|$)", white):
+        raise Wrong(f"{name}: the start number is from 0 to 959, and no player's name begins with a number")
     if ";" in players:
         raise Wrong(f"{name}: a player's name has no ;")
-    white, *black = DASH.split(players, maxsplit=1)
     if black and DASH.search(black[0]):
         raise Wrong(f"{name}: a player's name has no dash; a hyphen without spaces may stand in it")
     return name, "–".join([white, *black])
