@@ -68,7 +68,7 @@ const Address = (() => {
     const isMore = given.get("boards") && parts("players", ";").slice(names.length).some((it) => it !== "");
     return [
       wrong.length === 0 ? "" : `No board can have this name: ${wrong.join(", ")}.`,
-      isMore ? "The address has more pairs of players than boards, so some may stand at a wrong board: a player's name has no ;." : "",
+      isMore ? "The address has more pairs of players than boards, so some may stand at a wrong board: a player's name may have no ;." : "",
     ].filter((it) => it !== "").join(" ");
   }
 

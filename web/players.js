@@ -14,9 +14,9 @@ const Players = (() => {
   /** Why a player cannot have this name, or "": an address would be read with another. */
   function fault(name) {
     if (name.includes(";")) {
-      return "a player's name has no ;";
+      return "a player's name may have no ;";
     }
-    return DASH.test(name) ? "a player's name has no dash; a hyphen without spaces may stand in it" : "";
+    return DASH.test(name) ? "a player's name may have no dash; a hyphen without spaces may stand in it" : "";
   }
 
   /** The text of which `read` makes these. */

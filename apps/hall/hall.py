@@ -82,9 +82,9 @@ def read_board(line):
     if int(start or 0) > 959 or re.match(r"\d+(\s|$)", white):
         raise Wrong(f"{name}: the start number is from 0 to 959, and no player's name begins with a number")
     if ";" in players:
-        raise Wrong(f"{name}: a player's name has no ;")
+        raise Wrong(f"{name}: a player's name may have no ;")
     if black and DASH.search(black[0]):
-        raise Wrong(f"{name}: a player's name has no dash; a hyphen without spaces may stand in it")
+        raise Wrong(f"{name}: a player's name may have no dash; a hyphen without spaces may stand in it")
     return name, "–".join([white, *black])
 
 

@@ -132,8 +132,8 @@ def try_wrong_words(folder, taken):
     """Wrong rounds, lists that cannot be read, an address that is not this machine's, a port that is taken, and a main port in place of a
     watch port: each is refused in one line with its reason, and nothing is left running."""
     before = listened()
-    for text, why in ((b"", "names no board"), (b"b1\nb1\n", "twice"), (b"b.1\n", "no board's name"), (b"b1 A;B - C\n", "has no ;"),
-                      (b"b1 A - B - C\n", "has no dash"), (b"b1 1000 A - B\n", "from 0 to 959"),
+    for text, why in ((b"", "names no board"), (b"b1\nb1\n", "twice"), (b"b.1\n", "no board's name"), (b"b1 A;B - C\n", "may have no ;"),
+                      (b"b1 A - B - C\n", "may have no dash"), (b"b1 1000 A - B\n", "from 0 to 959"),
                       (b"b1 M\xfcller - C\n", "cannot be read: it is not UTF-8"), (None, "cannot be read: Is a directory")):
         file = pathlib.Path(folder, "wrong.txt")
         if text is None:

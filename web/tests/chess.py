@@ -696,9 +696,10 @@ LINES = [("r1 518 Carlsen, Magnus – Caruana", "Carlsen, Magnus", "Caruana"), (
          ("r1 Vachier-Lagrave -- Nepomniachtchi", "Vachier-Lagrave", "Nepomniachtchi"), ("r1 O'Neil & Co – 100%", "O'Neil & Co", "100%")]
 NO_LINES = [("r1 960 So – Ding", "r1: the start number is from 0 to 959"), ("r1 1000 So – Ding", "r1: the start number is from 0 to 959"),
             ("r1 1000", "r1: the start number is from 0 to 959"), ("r1 518 12 Ding – So", "r1: the start number is from 0 to 959"),
-            ("r1 Andr&eacute; Petit – Bauer", "r1: a player's name has no ;"), ("r1 So – Ding;", "r1: a player's name has no ;"),
-            ("r1 518 Smith – Jones – Brown", "r1: a player's name has no dash"), ("r1 So – Ding -- Li", "r1: a player's name has no dash"),
-            ("r1 So –– Ding", "r1: a player's name has no dash"), ("r.1 So – Ding", "r.1 is no board's name")]
+            ("r1 Andr&eacute; Petit – Bauer", "r1: a player's name may have no ;"), ("r1 So – Ding;", "r1: a player's name may have no ;"),
+            ("r1 518 Smith – Jones – Brown", "r1: a player's name may have no dash"),
+            ("r1 So – Ding -- Li", "r1: a player's name may have no dash"), ("r1 So –– Ding", "r1: a player's name may have no dash"),
+            ("r.1 So – Ding", "r.1 is no board's name")]
 
 
 def try_lists():

@@ -318,8 +318,9 @@ async def try_form(browser):
     await page.fill("#server", relay.address)
     await page.choose("#kind", "relay")
     for lines, words in (("f1\nf/2", "f/2 is no board's name"), ("f1\nf2\nf1", "f1 stands here twice"),
-                         ("f_1\nf_2", "f_2 is the next name of another board here"), ("f1 A;B – C\nf2", "f1: a player's name has no ;"),
-                         ("f1\nf2 Smith – Jones - Brown", "f2: a player's name has no dash")):
+                         ("f_1\nf_2", "f_2 is the next name of another board here"),
+                         ("f1 A;B – C\nf2", "f1: a player's name may have no ;"),
+                         ("f1\nf2 Smith – Jones - Brown", "f2: a player's name may have no dash")):
         await page.fill("#lines", lines)
         await page.click("#source .main")
         assert words in await page.run('document.querySelector("#lines").validationMessage')
