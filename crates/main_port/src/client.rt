@@ -152,7 +152,7 @@ impl Client {
     pub(crate) fn waits_for_room(&mut self) {
         self.state = State::Full;
         if self.follows() {
-            self.deadlines.silence.owes_no_rest();
+            self.deadlines.owes_no_rest();
         }
     }
 
@@ -169,17 +169,16 @@ impl Client {
         if has_said {
             self.deadlines.begins(now);
         }
-        let silence = &mut self.deadlines.silence;
         if has_come_whole {
-            silence.owes_no_rest();
+            self.deadlines.owes_no_rest();
         }
         let is_behind = matches!(self.state, State::Interrupted | State::Full);
         let owes = if is_behind {
-            silence.midway_since.is_some()
+            self.deadlines.midway_since.is_some()
         } else {
             is_midway
         };
-        silence.hears(now, owes);
+        self.deadlines.hears(now, owes);
     }
 
     /// A piece came from it that is dropped, since everything was written to it. Returns whether it may send more.

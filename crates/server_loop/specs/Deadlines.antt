@@ -1,8 +1,7 @@
 -- How long a connection is waited for, in the units of the loop's clock.
 use Rattle.std.specs.Prelude.{ℕ, ◌+◌, ◌-◌, ◌*◌, ◌/◌, nat_le, nat_lt, Bool, false, cond, is_some, Option, None, Some}
-use Rattle.server_loop.specs.declared.silence.TheConstants.{MOST_PINGS}
+use Rattle.server_loop.specs.declared.deadlines.TheConstants.{MOST_PINGS}
 use Rattle.server_loop.specs.declared.deadlines.Deadlines.{Deadlines}
-use Rattle.server_loop.specs.declared.silence.Silence.{Silence}
 use Rattle.server_loop.specs.declared.deadlines.SlowReader.{SlowReader}
 use Rattle.server_loop.specs.declared.deadlines.Times.{Times}
 use Rattle.server_loop.specs.declared.deadlines.Stage.{Stage}
@@ -43,14 +42,14 @@ slow_verdict (Some slow) since now = cond (has_lasted since now slow.close) Gone
 -- a ping is due after each time of silence, two of them at most, unless output waits
 abbrev pub ping_of : Times → Deadlines → ℕ → Verdict
 ping_of t d now =
-    cond (nat_le (steps_in (now - d.silence.heard_at) t.silent) d.silence.pings) Stays
-    (cond (nat_le MOST_PINGS d.silence.pings) Gone (cond (is_some d.waits_since) Stays Ping))
+    cond (nat_le (steps_in (now - d.heard_at) t.silent) d.pings) Stays
+    (cond (nat_le MOST_PINGS d.pings) Gone (cond (is_some d.waits_since) Stays Ping))
 
 -- One that may say something goes if half a message waits too long, and if output does, unless it is granted more. It is idle if it sends
 -- no message for so long, or may be silent.
 abbrev pub verdict_talking : Times → Deadlines → ℕ → Option ℕ → Verdict
 verdict_talking t d now most_idle =
-    cond (has_lasted d.silence.midway_since now t.half) Gone
+    cond (has_lasted d.midway_since now t.half) Gone
     (cond (nat_lt d.tries (tries_by t.slow_reader d.waits_since now)) Tries
     (cond (has_lasted d.waits_since now t.wait) (slow_verdict t.slow_reader d.stuck_since now)
     (cond (has_reached most_idle (now - d.stage_began)) Idle (ping_of t d now))))
@@ -64,17 +63,17 @@ verdict_of t d now Asks most_idle = verdict_talking t d now most_idle
 verdict_of t d now Follows most_idle = verdict_talking t d now None
 
 -- since when a silence counts, of which so many pings were sent, the last of them now: each has a whole time of silence behind it
-abbrev pub counted_from : Silence → ℕ → ℕ → ℕ
-counted_from s now silent = cond (nat_lt s.pings (steps_in (now - s.heard_at) silent)) (now - s.pings * silent) s.heard_at
+abbrev pub counted_from : Deadlines → ℕ → ℕ → ℕ
+counted_from d now silent = cond (nat_lt d.pings (steps_in (now - d.heard_at) silent)) (now - d.pings * silent) d.heard_at
 
 -- one ping more, sent now
-abbrev pub pinged : Silence → Silence
-pinged s = record s { pings = s.pings + 1 }
+abbrev pub pinged : Deadlines → Deadlines
+pinged d = record d { pings = d.pings + 1 }
 
 -- a ping and an attempt are counted, and so is the time to take a close
 abbrev pub counted_by : Times → ℕ → Verdict → Deadlines → Deadlines
 counted_by t now Stays d = d
-counted_by t now Ping d = record d { silence = record (pinged d.silence) { heard_at = counted_from (pinged d.silence) now t.silent } }
+counted_by t now Ping d = record (pinged d) { heard_at = counted_from (pinged d) now t.silent }
 counted_by t now Tries d = record d { tries = tries_by t.slow_reader d.waits_since now }
 counted_by t now Idle d = d
 counted_by t now Stuck d = record d { stuck_since = kept_waiting d.stuck_since now }

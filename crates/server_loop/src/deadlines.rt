@@ -1,9 +1,10 @@
 //! How long a connection is waited for. What is counted are the units of the loop's clock, in which the times are given too.
 
-ghost use Rattle.std.specs.Prelude.{◌≡◌, ◌-◌, None};
+ghost use Rattle.std.specs.Prelude.{◌≡◌, ◌-◌, cond, None, Some};
 ghost use Rattle.server_loop.specs.Deadlines.{counted_by, counted_from, has_lasted, kept_waiting, ping_of, slow_verdict, steps_in, tries_by, verdict_of, verdict_talking};
 
-use crate::silence::{MOST_PINGS, Silence};
+/// How many pings in a row are sent to a connection that stays silent.
+const MOST_PINGS: u64 = 2;
 
 /// What one that takes nothing of what is due is granted before it goes.
 #[derive(Clone, Copy)]
@@ -97,8 +98,12 @@ pub enum Stage {
 pub struct Deadlines {
     /// When it came, shook hands, sent its last message, or was sent everything: each stage has its own time.
     pub stage_began: u64,
-    /// Since when nothing has come from it.
-    pub silence: Silence,
+    /// When something last came from it.
+    pub heard_at: u64,
+    /// How many pings it was sent since then.
+    pub pings: u64,
+    /// Since when it has been in the middle of a message, if it is.
+    pub midway_since: Option<u64>,
     /// Since when something has been due that its connection did not take.
     pub waits_since: Option<u64>,
     /// How many attempts to write were made since then.
@@ -111,13 +116,17 @@ impl Deadlines {
     /// Of a connection that comes now.
     pub fn new(now: u64) -> Deadlines
         ensures began { result.stage_began ≡ now }
-        ensures heard { result.silence.heard_at ≡ now }
+        ensures heard { result.heard_at ≡ now }
+        ensures pings { result.pings ≡ 0 }
+        ensures midway { result.midway_since ≡ None }
         ensures waits { result.waits_since ≡ None }
         ensures stuck { result.stuck_since ≡ None }
     {
         Deadlines {
             stage_began: now,
-            silence: Silence::new(now),
+            heard_at: now,
+            pings: 0,
+            midway_since: None,
             waits_since: None,
             tries: 0,
             stuck_since: None,
@@ -129,6 +138,30 @@ impl Deadlines {
         ensures { self.new ≡ record self.old { stage_began = now } }
     {
         self.stage_began = now;
+    }
+
+    /// Something came from it; after that it may be in the middle of a message.
+    pub fn hears(&mut self, now: u64, is_midway: bool)
+        ensures { self.new ≡ record self.old { heard_at = now; pings = 0; midway_since = cond is_midway (kept_waiting self.old.midway_since now) None } }
+    {
+        self.heard_at = now;
+        self.pings = 0;
+        let since = self.midway_since.unwrap_or(now);
+        self.is_heard_again(since, is_midway);
+    }
+
+    /// The rest of a message is not waited for: it has come, and what follows it begins now. Or the connection is not heard for a while.
+    pub fn owes_no_rest(&mut self)
+        ensures { self.new ≡ record self.old { midway_since = None } }
+    {
+        self.midway_since = None;
+    }
+
+    /// It is heard again, and may be in the middle of a message.
+    pub fn is_heard_again(&mut self, now: u64, is_midway: bool)
+        ensures { self.new ≡ record self.old { midway_since = cond is_midway (Some now) None } }
+    {
+        self.midway_since = if is_midway { Some(now) } else { None };
     }
 
     /// Its connection took what was due, or enough of it to be waited for anew.
@@ -187,7 +220,7 @@ impl Deadlines {
         ensures verdict { result ≡ verdict_talking times.now self.old now most_idle }
         ensures counted { self.new ≡ counted_by times.now now result self.old }
     {
-        if is_over(self.silence.midway_since, now, times.half) {
+        if is_over(self.midway_since, now, times.half) {
             return Verdict::Gone;
         }
         let tries = tries_by(times.slow_reader, self.waits_since, now);
@@ -225,31 +258,31 @@ impl Deadlines {
         ensures verdict { result ≡ ping_of times.now self.old now }
         ensures counted { self.new ≡ counted_by times.now now result self.old }
     {
-        let silent = steps_in(now.saturating_sub(self.silence.heard_at), times.silent);
-        if silent <= self.silence.pings {
+        let silent = steps_in(now.saturating_sub(self.heard_at), times.silent);
+        if silent <= self.pings {
             return Verdict::Stays;
         }
-        if self.silence.pings >= MOST_PINGS {
+        if self.pings >= MOST_PINGS {
             return Verdict::Gone;
         }
         if self.waits_since.is_some() {
             return Verdict::Stays;
         }
-        self.silence.pings += 1;
-        self.silence.heard_at = counted_from(&self.silence, now, times.silent);
+        self.pings += 1;
+        self.heard_at = self.counted_from(now, times.silent);
         Verdict::Ping
     }
-}
 
-/// Since when a silence counts, of one that is sent its last ping now. Each ping has a whole time of silence before the next thing is done:
-/// one that comes late, since output waited or the program was suspended, is waited for as long as any other.
-fn counted_from(silence: &Silence, now: u64, silent: u64) -> u64
-    ensures { result ≡ counted_from silence.now now silent }
-{
-    if silence.pings < steps_in(now.saturating_sub(silence.heard_at), silent) {
-        now.saturating_sub(silence.pings.saturating_mul(silent))
-    } else {
-        silence.heard_at
+    /// Since when a silence counts, of one that is sent its last ping now. Each ping has a whole time of silence before the next thing is
+    /// done: one that comes late, since output waited or the program was suspended, is waited for as long as any other.
+    fn counted_from(&self, now: u64, silent: u64) -> u64
+        ensures { result ≡ counted_from self.now now silent }
+    {
+        if self.pings < steps_in(now.saturating_sub(self.heard_at), silent) {
+            now.saturating_sub(self.pings.saturating_mul(silent))
+        } else {
+            self.heard_at
+        }
     }
 }
 

@@ -11,7 +11,6 @@ mod log_line;
 mod log_thread;
 mod poller;
 mod run_queue;
-mod silence;
 mod socket;
 mod waker;
 
@@ -24,6 +23,5 @@ pub use log_line::LogLine;
 pub use log_thread::{Counts, Log};
 pub use poller::{LISTENER, MOST_EVENTS, Poller, WAKER};
 pub use run_queue::{Rank, RunQueue};
-pub use silence::Silence;
 pub use socket::{Delivery, Intake, MOST_PIECES, PIECE_BYTES, Written, receive, send, write_once};
 pub use waker::LoopWaker;

@@ -71,7 +71,7 @@ impl Client {
         let is_deaf = self.connection.is_owed_first() || self.connection.output.len() > MOST_OUTPUT;
         if is_deaf {
             self.is_full = true;
-            self.deadlines.silence.owes_no_rest();
+            self.deadlines.owes_no_rest();
         }
         is_deaf
     }

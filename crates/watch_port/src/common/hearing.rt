@@ -20,7 +20,7 @@ impl<'a> Common<'a> {
         self.answer(client)?;
         if !client.connection.peer.is_midway() {
             // What was left of its last turn was whole.
-            client.deadlines.silence.owes_no_rest();
+            client.deadlines.owes_no_rest();
         }
         for _ in 0..MOST_PIECES {
             if client.is_deaf() || was_last {
@@ -58,7 +58,7 @@ impl<'a> Common<'a> {
         client.connection.peer.feed(rest)?;
         self.answer(client)?;
         let is_midway = client.connection.peer.is_midway();
-        client.deadlines.silence.hears(self.now(), is_midway);
+        client.deadlines.hears(self.now(), is_midway);
         Ok(())
     }
 
@@ -110,7 +110,7 @@ impl<'a> Common<'a> {
             };
             if matches!(event, Event::Text(_) | Event::Binary(_)) {
                 client.deadlines.begins(self.now());
-                client.deadlines.silence.owes_no_rest();
+                client.deadlines.owes_no_rest();
             }
             self.answer_one(client, &event)?;
         }

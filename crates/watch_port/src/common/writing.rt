@@ -71,7 +71,7 @@ impl<'a> Common<'a> {
         }
         client.is_full = false;
         let (now, is_midway) = (self.now(), client.connection.peer.is_midway());
-        client.deadlines.silence.is_heard_again(now, is_midway);
+        client.deadlines.is_heard_again(now, is_midway);
         self.stands_unread(client)
     }
 
