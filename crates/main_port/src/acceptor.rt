@@ -8,8 +8,9 @@ use crate::serve_end::ServeEnd;
 use crate::settings::Settings;
 use crate::watchers::Watchers;
 use mio::Registry;
-use server_loop::{Arrival, Listener, Log, LogLine, MOST_NEWCOMERS};
+use server_loop::{Arrival, Log, LogLine, MOST_NEWCOMERS, Reserve};
 use std::marker::Model;
+use std::net::TcpListener;
 use std::sync::Wait;
 use std::sync::atomic::{AtomicBool, Ordering};
 use std::time::Clock;
@@ -20,8 +21,8 @@ const RETRY_MILLIS: u64 = 20;
 /// The listener, until it is closed, and how many have come. Contracts see an `AcceptorRecord`.
 #[derive(Drop)]
 pub(crate) struct Acceptor<'a> {
-    /// Where newcomers come in, as long as any may.
-    listener: Option<Listener>,
+    /// Where newcomers come in, as long as any may, and a descriptor in reserve for it.
+    listener: Option<(TcpListener, Reserve)>,
     met: ServeEnd,
     /// How many may be met, if that is bounded.
     most: Option<u32>,
@@ -53,9 +54,9 @@ impl<'a> Model for Acceptor<'a> {
 }
 
 impl<'a> Acceptor<'a> {
-    /// Accepts at this listener as many as these settings say, or without that number as many as come.
+    /// Accepts at this listener, which does not wait, as many as these settings say, or without that number as many as come.
     pub(crate) fn new(
-        listener: Listener,
+        listener: (TcpListener, Reserve),
         settings: &Settings,
         has_input_ended: &'a AtomicBool,
         log: &'a Log,
@@ -171,7 +172,7 @@ impl<'a> Acceptor<'a> {
         ensures { self.new ≡ self.old }
     {
         match &mut self.listener {
-            Some(listener) => listener.accept(),
+            Some((listener, reserve)) => reserve.accept(listener),
             None => Arrival::Nobody,
         }
     }

@@ -11,13 +11,16 @@ use crate::serve_end::ServeEnd;
 use crate::settings::Settings;
 use crate::watchers::Watchers;
 use chained_lines::StableFile;
+use mio::Interest;
+use mio::unix::SourceFd;
 use relay_durable::DurableService;
-use server_loop::{LISTENER, Listener, Log, LoopClock, Poller, watch_input};
+use server_loop::{LISTENER, Log, LoopClock, Poller, Reserve, watch_input};
 use std::alloc::Global;
 use std::io;
 use std::io::StdinLock;
 use std::marker::Model;
 use std::net::{Net, TcpListener};
+use std::os::fd::AsRawFd;
 use std::sync::atomic::{AtomicBool, Ordering};
 use std::sync::{Arc, Wait};
 use std::thread::Threads;
@@ -31,7 +34,7 @@ pub struct MainPort {
     /// What the loop knows of boards: the room for it is taken before anybody is served.
     boards: Boards,
     poller: Poller,
-    listener: Listener,
+    listener: (TcpListener, Reserve),
     clock: LoopClock,
     /// Whether standard input has ended.
     has_input_ended: Arc<AtomicBool, Global>,
@@ -60,12 +63,18 @@ impl MainPort {
         ensures { IfOk result (λ port. port ≡ settings.now) }
     {
         let poller = Poller::new(net, alloc)?;
+        let boards = Boards::new(alloc, &settings.limits)?;
+        listener.set_nonblocking(true)?;
+        let descriptor = listener.as_raw_fd();
+        let registry = poller.registry();
+        registry.register(&mut SourceFd(&descriptor), LISTENER, Interest::READABLE)?;
+        let reserve = Reserve::new(&listener);
         Ok(MainPort {
             alloc,
             settings: *settings,
-            boards: Boards::new(alloc, &settings.limits)?,
-            listener: Listener::new(listener, poller.registry(), LISTENER)?,
+            boards,
             poller,
+            listener: (listener, reserve),
             clock: LoopClock::begin(net)?,
             has_input_ended: Arc::new(alloc, AtomicBool::new(false))?,
         })

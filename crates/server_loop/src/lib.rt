@@ -18,7 +18,7 @@ pub use backoff::{Backoff, Pause};
 pub use clock::LoopClock;
 pub use deadlines::{Deadlines, SlowReader, Stage, Times, Verdict};
 pub use input::watch_input;
-pub use listener::{Arrival, Listener, MOST_NEWCOMERS, Reserve};
+pub use listener::{Arrival, MOST_NEWCOMERS, Reserve};
 pub use log_line::LogLine;
 pub use log_thread::{Counts, Log};
 pub use poller::{LISTENER, MOST_EVENTS, Poller, WAKER};

@@ -1,11 +1,8 @@
 //! Where connections come in without being waited for, and how one is turned away if there is no descriptor for it.
 
 use mio::net::TcpStream;
-use mio::unix::SourceFd;
-use mio::{Interest, Registry, Token};
 use std::io::{ErrorKind, Read, Write};
 use std::net::{Shutdown, TcpListener};
-use std::os::fd::AsRawFd;
 use std::{io, net};
 
 /// What a newcomer is told if there is no descriptor for it (RFC 9110, section 15.6.4).
@@ -71,33 +68,6 @@ impl Reserve {
             Err(error) if is_nobody(&error) => Arrival::Nobody,
             Err(_) => Arrival::Failed,
         }
-    }
-}
-
-/// A listener that does not wait, with a descriptor in reserve.
-#[derive(Drop)]
-pub struct Listener {
-    listener: TcpListener,
-    reserve: Reserve,
-}
-
-impl Listener {
-    /// Takes a listener, which is made non-blocking. This registry reports newcomers under this token.
-    ///
-    /// # Errors
-    ///
-    /// As the system's own calls.
-    pub fn new(listener: TcpListener, registry: &Registry, token: Token) -> io::Result<Listener> {
-        listener.set_nonblocking(true)?;
-        let descriptor = listener.as_raw_fd();
-        registry.register(&mut SourceFd(&descriptor), token, Interest::READABLE)?;
-        let reserve = Reserve::new(&listener);
-        Ok(Listener { listener, reserve })
-    }
-
-    /// Accepts the next newcomer.
-    pub fn accept(&mut self) -> Arrival {
-        self.reserve.accept(&self.listener)
     }
 }
 
