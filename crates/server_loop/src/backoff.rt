@@ -1,10 +1,12 @@
 //! The connections that are not read for a moment, because they were refused to follow.
 
-ghost use Rattle.std.specs.Prelude.{◌≡◌, ◌-◌, ◌+◌, ◌≤◌, [], ◌∷◌, ◌++◌, nat_le, IfNone, IfSome, IsNone, ◌↔◌, OnErr, OnOk};
-ghost use Rattle.std.specs.List.{All, position};
-ghost use Rattle.server_loop.specs.Backoff.{HasPaused, LastUntil, end_of, start_of};
+ghost use Rattle.std.specs.Prelude.{◌≡◌, ◌-◌, ◌+◌, ◌≤◌, [], IfNone, IfSome, IsNone, ◌↔◌, OnErr, OnOk};
+ghost use Rattle.std.specs.BTreeSet.{insert_key};
+ghost use Rattle.std.specs.List.{All};
+ghost use Rattle.server_loop.specs.Backoff.{HasPaused, LastUntil, end_of, order, start_of};
 
 use std::alloc::{AllocError, Global};
+use std::collections::BTreeSet;
 use std::marker::Model;
 
 /// For how many milliseconds a connection is not read after a refused command to follow. One that asks again and again would otherwise
@@ -17,19 +19,18 @@ const MOST_PAUSE_MILLIS: u64 = 500;
 /// Over how many milliseconds the beginnings of pauses are spread.
 const SPREAD_MILLIS: u64 = 16;
 
-/// A connection that pauses, and the millisecond at which that is over.
-#[derive(Clone, Copy)]
+/// A connection that pauses, and the millisecond at which that is over. Of two pauses the one that is over first comes first.
+#[derive(Clone, Copy, PartialEq, Eq, PartialOrd, Ord, Drop)]
 pub struct Pause {
-    pub key: u64,
     pub until: u64,
+    pub key: u64,
 }
 
-/// The connections that pause, in any order.
+/// The connections that pause, in the order in which their pauses are over. One that pauses twice until the same millisecond stands here
+/// once.
 #[derive(Drop)]
 pub struct Backoff {
-    pauses: Vec<Pause>,
-    /// No pause is over before this millisecond, if any connection pauses.
-    next: u64,
+    pauses: BTreeSet<Pause>,
 }
 
 impl Model for Backoff {
@@ -38,11 +39,7 @@ impl Model for Backoff {
 
     ghost Value = { List Pause };
 
-    ghost use Rattle.server_loop.specs.Backoff.{LastUntil};
-
-    ghost view = { λ a. a.pauses.items };
-
-    ghost invariant = { λ a. LastUntil a.next a.pauses.items };
+    ghost view = { λ a. a.pauses.keys };
 }
 
 impl Backoff {
@@ -51,8 +48,7 @@ impl Backoff {
         ensures { result ≡ [] }
     {
         Backoff {
-            pauses: Vec::new(alloc),
-            next: u64::MAX,
+            pauses: BTreeSet::new(alloc),
         }
     }
 
@@ -62,7 +58,7 @@ impl Backoff {
     ///
     /// There was no memory.
     pub fn add(&mut self, key: u64, now: u64, refused: u32) -> Result<(), AllocError>
-        ensures ok { OnOk result (self.new ≡ self.old ++ (record { key = key; until = end_of (start_of now key) refused }) ∷ []) }
+        ensures ok { OnOk result (self.new ≡ insert_key order self.old (record { until = end_of (start_of now key) refused; key = key })) }
         ensures err { OnErr result (self.new ≡ self.old) }
     {
         // Some begin later than others. Else the pauses of a crowd that asks again and again would all be over at once, and its answers
@@ -71,21 +67,16 @@ impl Backoff {
         let pause = (u64::from(refused) * PAUSE_MILLIS).min(MOST_PAUSE_MILLIS);
         // The millisecond that had begun does not count.
         let until = since.saturating_add(pause).saturating_add(1);
-        self.pauses.push(Pause { key, until })?;
-        self.next = self.next.min(until);
+        self.pauses.insert(Pause { until, key })?;
         Ok(())
     }
 
-    /// In how many milliseconds the next pause may be over, if any connection pauses.
+    /// In how many milliseconds the next pause is over, if any connection pauses.
     pub fn next_in(&self, now: u64) -> Option<u64>
         ensures none { IsNone result ↔ (self.now ≡ []) }
         ensures soon { IfSome result (λ millis. All (λ r. millis ≤ r.until - now) self.now) }
     {
-        if self.pauses.is_empty() {
-            None
-        } else {
-            Some(self.next.saturating_sub(now))
-        }
+        Some(self.pauses.first()?.until.saturating_sub(now))
     }
 
     /// Takes a connection whose pause is over, if there is one.
@@ -94,33 +85,9 @@ impl Backoff {
         ensures none { IfNone result (LastUntil (now + 1) self.old) }
         ensures unchanged { IfNone result (self.new ≡ self.old) }
     {
-        if now < self.next {
+        if self.pauses.first()?.until > now {
             return None;
         }
-        match first_over(self.pauses.as_slice(), now) {
-            Some(at) => Some(self.pauses.swap_remove(at).key),
-            None => {
-                self.next = earliest(self.pauses.as_slice());
-                None
-            }
-        }
+        Some(self.pauses.pop_first()?.key)
     }
-}
-
-/// The index of the first pause that is over.
-fn first_over(pauses: &[Pause], now: u64) -> Option<usize>
-    ensures { result ≡ position (λ r. nat_le r.until now) pauses.now }
-{
-    pauses.iter().position(|pause| pause.until <= now)
-}
-
-/// A millisecond before which no pause is over.
-fn earliest(pauses: &[Pause]) -> u64
-    ensures { LastUntil result pauses.now }
-{
-    let mut least = u64::MAX;
-    for pause in pauses {
-        least = least.min(pause.until);
-    }
-    least
 }
