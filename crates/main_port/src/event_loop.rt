@@ -167,13 +167,13 @@ impl<'a, R: Wait + Clock, W: Watchers> EventLoop<'a, R, W> {
         let rt = self.clients.common.rt;
         let asked = self.clients.now();
         // This comes before looking: whoever wakes the loop from now on wakes it again.
-        poller.waker().reset();
+        poller.waker.reset();
         self.clients.common.clock.look(rt);
         // What the system reports now may have come right after it was asked the time before, or earlier if it left something out then.
-        if self.clients.note(poller.events(), self.reported_by) {
+        if self.clients.note(&poller.events, self.reported_by) {
             self.acceptor.looks();
         }
-        let told = poller.events().iter().count();
+        let told = poller.events.iter().count();
         self.clients.end_pauses();
         self.clients.serve_all();
         if told < MOST_EVENTS {
@@ -184,7 +184,7 @@ impl<'a, R: Wait + Clock, W: Watchers> EventLoop<'a, R, W> {
         }
         self.tick();
         self.acceptor
-            .accept(&mut self.clients, poller.registry(), told);
+            .accept(&mut self.clients, poller.poll.registry(), told);
         // However long a turn took, or the program was suspended, nobody is dropped for what it had sent in time.
         if self.clients.look_around(self.heard_by) {
             // An accept that failed is tried again.

@@ -66,7 +66,7 @@ impl MainPort {
         let boards = Boards::new(alloc, &settings.limits)?;
         listener.set_nonblocking(true)?;
         let descriptor = listener.as_raw_fd();
-        let registry = poller.registry();
+        let registry = poller.poll.registry();
         registry.register(&mut SourceFd(&descriptor), LISTENER, Interest::READABLE)?;
         let reserve = Reserve::new(&listener);
         Ok(MainPort {
@@ -125,9 +125,7 @@ impl MainPort {
             has_input_ended,
         } = self;
         // If nobody can watch the input, serving ends at once.
-        if settings.until_input_ends
-            && watch_input(rt, &has_input_ended, poller.waker()).is_none()
-        {
+        if settings.until_input_ends && watch_input(rt, &has_input_ended, &poller.waker).is_none() {
             has_input_ended.store(true, Ordering::SeqCst);
         }
         let common = Common::new(rt, alloc, service, &settings, boards, clock, watchers, log);

@@ -39,9 +39,4 @@ impl LoopClock {
     pub fn millis(&self) -> u64 {
         u64::try_from(self.passed.as_millis()).unwrap_or(u64::MAX)
     }
-
-    /// The same in whole seconds.
-    pub fn seconds(&self) -> u64 {
-        self.passed.as_secs()
-    }
 }

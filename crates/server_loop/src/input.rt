@@ -1,5 +1,6 @@
 //! The thread that notices the end of standard input.
 
+use crate::log_thread::STACK_BYTES;
 use crate::waker::LoopWaker;
 use std::alloc::Global;
 use std::io;
@@ -7,9 +8,6 @@ use std::io::StdinLock;
 use std::sync::Arc;
 use std::sync::atomic::{AtomicBool, Ordering};
 use std::thread::{Builder, Threads};
-
-/// How many bytes the stack of the thread has.
-const STACK_BYTES: usize = 256 * 1024;
 
 /// Starts the thread, if the system has one. It lasts as long as standard input does, so nobody joins it. When that ends, or cannot be
 /// read, it says so and wakes the loop. What is read is ignored.

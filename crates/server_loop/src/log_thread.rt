@@ -16,8 +16,8 @@ const MOST_LINES: usize = 4096;
 /// How many seconds pass between two lines of counts.
 const BETWEEN_COUNTS_SECONDS: u64 = 60;
 
-/// How many bytes the stack of the thread has.
-const STACK_BYTES: usize = 256 * 1024;
+/// How many bytes the stack of a thread beside a loop has.
+pub(crate) const STACK_BYTES: usize = 256 * 1024;
 
 /// What the lines of counts tell.
 #[derive(Clone, Copy, Default)]

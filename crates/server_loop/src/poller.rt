@@ -1,7 +1,7 @@
 //! What a loop asks the system for: what it reports, and what wakes the loop.
 
 use crate::waker::LoopWaker;
-use mio::{Events, Poll, Registry, Token, Waker};
+use mio::{Events, Poll, Token, Waker};
 use std::alloc::Global;
 use std::io;
 use std::net::Net;
@@ -20,9 +20,12 @@ pub const MOST_EVENTS: usize = 1024;
 /// What the system reports to a loop.
 #[derive(Drop)]
 pub struct Poller {
-    poll: Poll,
-    events: Events,
-    waker: Arc<LoopWaker, Global>,
+    /// Where connections are registered whose events are to be reported.
+    pub poll: Poll,
+    /// The events that were reported last.
+    pub events: Events,
+    /// What wakes the loop.
+    pub waker: Arc<LoopWaker, Global>,
 }
 
 impl Poller {
@@ -41,16 +44,6 @@ impl Poller {
         })
     }
 
-    /// Where connections are registered whose events are to be reported.
-    pub fn registry(&self) -> &Registry {
-        self.poll.registry()
-    }
-
-    /// What wakes the loop.
-    pub fn waker(&self) -> &Arc<LoopWaker, Global> {
-        &self.waker
-    }
-
     /// Waits for events, but no longer than this.
     ///
     /// # Errors
@@ -58,10 +51,5 @@ impl Poller {
     /// As the system's own call.
     pub fn wait(&mut self, most: Duration) -> io::Result<()> {
         self.poll.poll(&mut self.events, Some(most))
-    }
-
-    /// The events that the system reported last.
-    pub fn events(&self) -> &Events {
-        &self.events
     }
 }

@@ -77,7 +77,7 @@ impl<'a> Common<'a> {
 
     /// The second of the loop's clock.
     pub(crate) fn now(&self) -> u64 {
-        self.clock.seconds()
+        self.clock.passed().as_secs()
     }
 
     /// Does what is due for a client.

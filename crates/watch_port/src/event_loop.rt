@@ -48,7 +48,7 @@ impl EventLoop {
         let (feed, boards) = Feed::new(alloc, limits)?;
         let event_loop = EventLoop {
             alloc,
-            acceptor: port.add(poller.registry())?,
+            acceptor: port.add(poller.poll.registry())?,
             poller,
             boards,
         };
@@ -57,7 +57,7 @@ impl EventLoop {
 
     /// What wakes it: to be called when it was told anything, or its port closes.
     pub fn waker(&self) -> &Arc<LoopWaker, Global> {
-        self.poller.waker()
+        &self.poller.waker
     }
 
     /// Serves connections of its port until the port closes and they have gone, or until a while after that.
@@ -128,13 +128,13 @@ impl<'a> Turns<'a> {
         self.clients.common.clock.look(clock);
         let began = self.clients.common.now();
         // This comes before looking: whoever wakes the loop from now on wakes it again.
-        poller.waker().reset();
+        poller.waker.reset();
         // Once the port closes no board changes any more, so what is told then is the last.
         let is_closing = self.clients.common.port.is_closing();
         self.clients.common.take_in_events();
         self.clients.hear_unread();
         let mut told = 0usize;
-        for event in poller.events().iter() {
+        for event in poller.events.iter() {
             self.clients.common.clock.look(clock);
             self.handle(event);
             told = told.saturating_add(1);
@@ -144,7 +144,7 @@ impl<'a> Turns<'a> {
             self.heard_by = asked;
         }
         self.clients.common.clock.look(clock);
-        self.accept(poller.registry(), told);
+        self.accept(poller.poll.registry(), told);
         self.clients.common.look_for_news();
         self.clients.tell();
         // However long a turn took, or the program was suspended, no client is dropped for what it had sent in time.
