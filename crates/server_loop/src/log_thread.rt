@@ -5,7 +5,7 @@ use log::sink::Console;
 use log::{Level, Logged, info};
 use std::alloc::{AllocError, Global};
 use std::mem;
-use std::sync::atomic::{AtomicBool, AtomicU32, Ordering};
+use std::sync::atomic::{AtomicU32, Ordering};
 use std::sync::{Arc, Condvar, Mutex, Wait};
 use std::thread::{Builder, JoinHandle, Threads};
 use std::time::{Clock, Duration, Instant};
@@ -34,23 +34,28 @@ pub struct Counts {
     pub cut: u64,
 }
 
-/// Lines that wait to be written.
+/// Lines that wait to be written, and what the lines of counts tell.
 #[derive(Drop)]
 struct Lines {
     kept: Vec<LogLine>,
     /// How many were left out, because too many were waiting or there was no memory.
     left_out: u64,
+    /// Whether one of them says that a connection was turned away.
+    are_short: bool,
     /// Whether no more come.
     are_last: bool,
+    counts: Counts,
 }
 
 impl Lines {
     /// No lines.
-    fn new(alloc: Global) -> Lines {
+    fn new(alloc: Global, counts: Counts) -> Lines {
         Lines {
             kept: Vec::new(alloc),
             left_out: 0,
+            are_short: false,
             are_last: false,
+            counts,
         }
     }
 
@@ -59,14 +64,16 @@ impl Lines {
         self.kept.is_empty() && self.left_out == 0 && !self.are_last
     }
 
-    /// Adds a line, or counts it if there is no room. What is reported in any case does not want for room. Returns whether it was added.
-    fn add(&mut self, line: LogLine) -> bool {
+    /// Adds a line, or counts it if there is no room. What is reported in any case does not want for room. That a connection was
+    /// turned away is added once.
+    fn add(&mut self, line: LogLine) {
+        if matches!(line, LogLine::NoRoom) && mem::replace(&mut self.are_short, true) {
+            return;
+        }
         let has_room = self.kept.len() < MOST_LINES || !line.is_of_log();
-        let is_added = has_room && self.kept.push(line).is_ok();
-        if !is_added {
+        if !has_room || self.kept.push(line).is_err() {
             self.left_out = self.left_out.saturating_add(1);
         }
-        is_added
     }
 }
 
@@ -79,9 +86,6 @@ struct Shared {
     lines: Mutex<Lines>,
     /// Notified at each line, and when no more will come.
     noted: Condvar,
-    /// Whether the last line of a connection that was turned away has yet to be written.
-    is_short: AtomicBool,
-    counts: Mutex<Counts>,
     /// How many connections the watch port has, if there is one.
     watching: Option<Arc<AtomicU32, Global>>,
 }
@@ -99,7 +103,8 @@ impl Shared {
                 waited.0
             }
         };
-        mem::replace(&mut *lines, Lines::new(self.alloc))
+        let counts = lines.counts;
+        mem::replace(&mut *lines, Lines::new(self.alloc, counts))
     }
 }
 
@@ -129,10 +134,8 @@ impl Log {
         let shared = Shared {
             alloc,
             is_kept,
-            lines: Mutex::new(Lines::new(alloc)),
+            lines: Mutex::new(Lines::new(alloc, Counts::default())),
             noted: Condvar::new(),
-            is_short: AtomicBool::new(false),
-            counts: Mutex::new(Counts::default()),
             watching,
         };
         let shared = Arc::new(alloc, shared)?;
@@ -147,25 +150,17 @@ impl Log {
 
     /// What the lines of counts tell from now on.
     pub fn counts<R: Wait>(&self, rt: &R, counts: Counts) {
-        *self.shared.counts.lock(rt) = counts;
+        self.shared.lines.lock(rt).counts = counts;
     }
 
     /// Has a line written, if there is a log or it is reported in any case. That a connection was turned away is not reported while the
-    /// last such line has yet to be written.
+    /// last such line waits.
     pub fn note<R: Wait>(&self, rt: &R, line: LogLine) {
         let shared = &*self.shared;
-        if line.is_of_log() && !shared.is_kept {
-            return;
+        if shared.is_kept || !line.is_of_log() {
+            shared.lines.lock(rt).add(line);
+            shared.noted.notify_one();
         }
-        let is_short = matches!(line, LogLine::NoRoom);
-        if is_short && shared.is_short.swap(true, Ordering::SeqCst) {
-            return;
-        }
-        let is_added = shared.lines.lock(rt).add(line);
-        if is_short && !is_added {
-            shared.is_short.store(false, Ordering::SeqCst);
-        }
-        shared.noted.notify_one();
     }
 
     /// Lets the thread write what is left, and joins it.
@@ -197,12 +192,12 @@ fn run<R: Wait + Clock + Eprint>(rt: &R, shared: &Shared) {
     let mut counted_at = Instant::now(rt).ok();
     for _ in rt.forever() {
         let lines = shared.take(rt, until_counts(rt, shared, counted_at));
-        write_lines(rt, shared, &lines);
+        write_lines(rt, &lines);
         if lines.are_last {
             return;
         }
         if until_counts(rt, shared, counted_at) == Some(Duration::ZERO) {
-            write_counts(rt, shared);
+            write_counts(rt, shared, &lines.counts);
             counted_at = Instant::now(rt).ok();
         }
     }
@@ -223,16 +218,13 @@ fn until_counts<R: Clock>(
 }
 
 /// Writes these lines, and one if some were left out. Serving goes on even if standard error is closed.
-fn write_lines<R: Eprint>(rt: &R, shared: &Shared, lines: &Lines) {
+fn write_lines<R: Eprint>(rt: &R, lines: &Lines) {
     let log = Logged::new(rt, Level::Info, Console(rt));
     for line in lines.kept.iter() {
         if line.is_of_log() {
             info!(log; target: "relay960", "{line}");
         } else {
             let _ = eprintln!(rt; "{line}");
-        }
-        if matches!(line, LogLine::NoRoom) {
-            shared.is_short.store(false, Ordering::SeqCst);
         }
     }
     if lines.left_out > 0 {
@@ -241,8 +233,7 @@ fn write_lines<R: Eprint>(rt: &R, shared: &Shared, lines: &Lines) {
 }
 
 /// Writes how many connections and boards there are.
-fn write_counts<R: Wait + Eprint>(rt: &R, shared: &Shared) {
-    let now = *shared.counts.lock(rt);
+fn write_counts<R: Eprint>(rt: &R, shared: &Shared, now: &Counts) {
     let log = Logged::new(rt, Level::Info, Console(rt));
     info!(log; target: "relay960", "connections {}, boards {}, ended {}, followers {}, cut off {}",
         now.connections, now.boards, now.ended, now.followers, now.cut);
