@@ -70,7 +70,8 @@ impl<'a> Clients<'a> {
 
     /// Reads the clients that are to be read on.
     pub(crate) fn hear_unread(&mut self) {
-        for key in mem::replace(&mut self.common.unread, Vec::new(self.common.alloc)) {
+        let alloc = self.common.alloc;
+        for key in mem::replace(&mut self.common.unread, Vec::new(alloc)) {
             self.attend(key, |common, client| common.hear(client, true));
             self.tell();
         }
@@ -78,7 +79,8 @@ impl<'a> Clients<'a> {
 
     /// Tells clients the news that was found meanwhile. One whose connection takes no more now waits for it.
     pub(crate) fn tell(&mut self) {
-        for key in mem::replace(&mut self.common.untold, Vec::new(self.common.alloc)) {
+        let alloc = self.common.alloc;
+        for key in mem::replace(&mut self.common.untold, Vec::new(alloc)) {
             self.attend(key, |common, client| match client.deadlines.waits_since {
                 Some(_) => Ok(()),
                 None => common.send(client),

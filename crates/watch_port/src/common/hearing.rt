@@ -152,10 +152,10 @@ impl<'a> Common<'a> {
                 self.watch_all(client)?;
                 Ok(None)
             }
-            Ok(WatchCommand::Step(Step::Follow(_, board, from))) => {
-                Ok(self.follow(client, &board, from)?.map(refused))
-            }
-            Ok(WatchCommand::Step(_)) => Ok(Some(refused(Refusal::WrongMode))),
+            Ok(WatchCommand::Step(step)) => match step {
+                Step::Follow(_, board, from) => Ok(self.follow(client, &board, from)?.map(refused)),
+                _ => Ok(Some(refused(Refusal::WrongMode))),
+            },
             Err(fault) => Ok(Some(Answer::Fault(fault))),
         }
     }
