@@ -1,7 +1,7 @@
 -- What a loop is told of boards, and how far it was told of each.
 use Rattle.std.specs.Prelude.{◌≡◌, ◌==◌, ◌+◌, ℕ, min, Bool, true, false, cond, List, [], ◌∷◌, ◌++◌, length, take, slice_get, Option, Some, None, option_map, unwrap_or}
 use Rattle.c960_game.specs.declared.outcome.Outcome.{Outcome}
-use Rattle.watch_port.specs.declared.feed.BoardUpdate.{BoardUpdate}
+use Rattle.relay_hall.specs.Reading.{ShownBoard}
 use Rattle.watch_port.specs.declared.board_event.Progress.{Progress}
 use Rattle.watch_port.specs.declared.board_event.BoardEvent.{BoardEvent}
 use Rattle.watch_port.specs.declared.board_event.BoardEvent.TheVariants.{Opened, Played, Ended}
@@ -39,16 +39,16 @@ is_told_of_the_end sent at = unwrap_or (option_map (λ (t : Progress). t.is_over
 -- ---- What it lacks.
 
 -- that a board was opened, if it is the next of which the loop was not told
-abbrev pub opening_of : List BoardEvent → BoardUpdate → List BoardEvent
-opening_of sent b = cond (b.at == length (told_by sent)) (Opened b.name b.start ∷ []) []
+abbrev pub opening_of : List BoardEvent → ℕ → ShownBoard → List BoardEvent
+opening_of sent at b = cond (at == length (told_by sent)) (Opened b.name b.game.start ∷ []) []
 
 -- the end, if there is one and it was not told of it
 abbrev pub end_told : ℕ → Option Outcome → Bool → List BoardEvent
 end_told at None told = []
 end_told at (Some outcome) told = cond told [] (Ended at outcome ∷ [])
 
-abbrev pub end_of : List BoardEvent → BoardUpdate → List BoardEvent
-end_of sent b = end_told b.at b.outcome (is_told_of_the_end sent b.at)
+abbrev pub end_of : List BoardEvent → ℕ → ShownBoard → List BoardEvent
+end_of sent at b = end_told at b.game.outcome (is_told_of_the_end sent at)
 
 -- it was told all of this behind what it had been told before, or the first part of it
 abbrev pub IsPut : List BoardEvent → List BoardEvent → Bool → List BoardEvent → Type 0

@@ -30,11 +30,7 @@ impl Audience {
     }
 
     /// Puts on the tape what it lacks of its board: the moves from its length on, and the end. If that is anything, its spectators are
-    /// added to `untold`.
-    ///
-    /// # Errors
-    ///
-    /// There was no memory. The next call does what is missing.
+    /// added to `untold`. The next call does what is missing for want of memory.
     pub(crate) fn refresh(
         &mut self,
         boards: &BoardTable,
@@ -78,14 +74,10 @@ impl Audience {
     /// The position at a place, which is the last that was asked for from then on. When many spectators arrive at once, they join at the
     /// same.
     fn position_at(&mut self, boards: &BoardTable, place: u16) -> Option<Position> {
-        if let Some((at, position)) = self.last {
-            if at == place {
-                return Some(position);
-            }
+        if !self.last.is_some_and(|(at, _)| at == place) {
+            self.last = Some((place, boards.board(self.board)?.game.position_at(place)?));
         }
-        let position = boards.board(self.board)?.game.position_at(place)?;
-        self.last = Some((place, position));
-        Some(position)
+        self.last.map(|(_, position)| position)
     }
 }
 

@@ -46,11 +46,7 @@ impl BoardList {
     }
 
     /// If there are spectators, adds the boards that were opened, and makes the texts that are due again. If any has changed since the
-    /// spectators were told, they are added to `untold`.
-    ///
-    /// # Errors
-    ///
-    /// There was no memory. The next call does what is missing.
+    /// spectators were told, they are added to `untold`. The next call does what is missing for want of memory.
     pub(crate) fn refresh(
         &mut self,
         boards: &BoardTable,
@@ -68,16 +64,9 @@ impl BoardList {
         made
     }
 
-    /// Adds the boards that were opened, and makes the texts that are due again.
-    ///
-    /// # Errors
-    ///
-    /// There was no memory. The next call does what is missing.
+    /// Adds the boards that were opened, and makes the texts that are due again. The next call does what is missing for want of memory.
     pub(crate) fn make_texts(&mut self, boards: &BoardTable, now: u64) -> Result<(), AllocError> {
-        for at in 0..boards.len() {
-            self.make_text(at, boards, now)?;
-        }
-        Ok(())
+        (0..boards.len()).try_for_each(|at| self.make_text(at, boards, now))
     }
 
     /// Makes the text of the board of this index, if there is none yet or it is due again.
@@ -85,15 +74,12 @@ impl BoardList {
         let Some(board) = boards.board(at) else {
             return Ok(());
         };
-        let made_of = Progress {
-            moves: board.game.len(),
-            is_over: board.outcome.is_some(),
-        };
-        if let Some(entry) = self.entries.get(at) {
-            // News of a game that goes on waits for the next second.
-            if entry.made_of == made_of || entry.made_at >= now && !made_of.is_over {
-                return Ok(());
-            }
+        let (moves, is_over) = (board.game.len(), board.outcome.is_some());
+        let made_of = Progress { moves, is_over };
+        // News of a game that goes on waits for the next second.
+        let stays = |entry: &Entry| entry.made_of == made_of || entry.made_at >= now && !is_over;
+        if self.entries.get(at).is_some_and(stays) {
+            return Ok(());
         }
         let text = encode_board(self.alloc, &board.summary())?;
         let mut frame = Vec::new(self.alloc);
@@ -113,16 +99,10 @@ impl BoardList {
         Ok(())
     }
 
-    /// Appends the frames that changed after this number to `output`.
-    ///
-    /// # Errors
-    ///
-    /// There was no memory. Then nothing was appended.
+    /// Appends the frames that changed after this number to `output`, or nothing for want of memory.
     pub(crate) fn put_changes(&self, after: u64, output: &mut Vec<u8>) -> Result<(), AllocError> {
-        let mut length = 0usize;
-        for entry in self.entries.iter().filter(|entry| entry.change > after) {
-            length = length.saturating_add(entry.frame.len());
-        }
+        let changed = self.entries.iter().filter(|entry| entry.change > after);
+        let length = changed.fold(0usize, |sum, entry| sum.saturating_add(entry.frame.len()));
         output.reserve(length)?;
         for entry in self.entries.iter().filter(|entry| entry.change > after) {
             output.extend_from_slice(entry.frame.as_slice())?;

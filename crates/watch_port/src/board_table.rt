@@ -45,11 +45,7 @@ impl BoardCopy {
     }
 }
 
-/// Does with boards what was told.
-///
-/// # Errors
-///
-/// There was no memory. Nothing has changed.
+/// Does with boards what was told, or nothing for want of memory.
 fn apply(
     alloc: Global,
     limits: &Limits,
@@ -61,9 +57,7 @@ fn apply(
 {
     match event {
         BoardEvent::Opened(name, start) => {
-            let Ok(game) = Game::open(alloc, start, limits.plies()) else {
-                return Err(AllocError);
-            };
+            let game = Game::open(alloc, start, limits.plies()).map_err(|_| AllocError)?;
             boards.push(BoardCopy {
                 name,
                 game,
@@ -108,11 +102,7 @@ impl Model for BoardTable {
 
 impl BoardTable {
     /// No boards yet. What is told of them comes by this ring, and these are their limits.
-    pub(crate) fn new(
-        alloc: Global,
-        ring: Consumer<BoardEvent, Global>,
-        limits: Limits,
-    ) -> BoardTable
+    pub(crate) fn new(alloc: Global, ring: Consumer<BoardEvent, Global>, limits: Limits) -> Self
         requires { received ring ≡ [] }
         ensures { result ≡ nothing_told limits.plies }
     {
@@ -141,11 +131,7 @@ impl BoardTable {
         Ok(())
     }
 
-    /// Takes in the next of what the loop was told. Returns whether there was any.
-    ///
-    /// # Errors
-    ///
-    /// There was no memory. Nothing has changed.
+    /// Takes in the next of what the loop was told, or nothing for want of memory. Returns whether there was any.
     fn take_one(&mut self) -> Result<bool, AllocError>
         ensures taken { HasTaken self.old self.new }
         ensures one { IfOk result (λ some. some ≡ true → length self.new.told ≡ length self.old.told + 1) }

@@ -4,7 +4,7 @@ use crate::watch_connection::{Doing, WatchConnection};
 use mio::net::TcpStream;
 use relay_frames::MOST_OUTPUT;
 use relay_watching::Tape;
-use server_loop::{Deadlines, Delivery, Stage, Written, write_once};
+use server_loop::{Deadlines, Stage, Written, write_once};
 use std::alloc::AllocError;
 use std::net::Shutdown;
 
@@ -37,13 +37,14 @@ pub(crate) struct Client {
 }
 
 impl Client {
-    /// Writes what is due, until nothing is or the connection takes no more. The tape is that of the board that it watches.
-    pub(crate) fn send(&mut self, tape: Option<&Tape>, now: u64) -> Delivery {
+    /// Writes what is due, until nothing is or the connection takes no more. The tape is that of the board that it watches. Returns whether
+    /// everything is written.
+    pub(crate) fn send(&mut self, tape: Option<&Tape>, now: u64) -> Result<bool, Gone> {
         for _ in 0..u64::MAX {
             let piece = self.connection.offered(tape);
             if piece.is_empty() {
                 self.deadlines.is_served();
-                return Delivery::All;
+                return Ok(true);
             }
             let length = piece.len();
             match write_once(&self.stream, piece, self.connection.offered_behind(tape)) {
@@ -57,12 +58,12 @@ impl Client {
                 }
                 Written::Blocked => {
                     self.deadlines.is_kept_waiting(now);
-                    return Delivery::Blocked;
+                    return Ok(false);
                 }
-                Written::Failed => return Delivery::Failed,
+                Written::Failed => return Err(Gone),
             }
         }
-        Delivery::Failed
+        Err(Gone)
     }
 
     /// Whether it is not heard now, because too much is kept for it, or because it is still owed what it has to be sent first. It is heard
@@ -83,10 +84,8 @@ impl Client {
 
     /// The stage at which it is.
     pub(crate) fn stage(&self) -> Stage {
-        if self.is_draining {
-            return Stage::Drains;
-        }
         match &self.connection.doing {
+            _ if self.is_draining => Stage::Drains,
             Doing::Comes(_) => Stage::Comes,
             Doing::Asks => Stage::Asks,
             Doing::Watches(_) | Doing::WatchesAll(_) => Stage::Follows,

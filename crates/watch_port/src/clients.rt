@@ -1,7 +1,7 @@
 //! All connections of a loop: how they come and go, and what is due for which.
 
-use crate::client::Client;
-use crate::common::{Common, Due};
+use crate::client::{Client, Gone};
+use crate::common::Common;
 use crate::watch_connection::WatchConnection;
 use mio::net::TcpStream;
 use mio::{Interest, Registry, Token};
@@ -17,14 +17,6 @@ pub(crate) struct Clients<'a> {
 }
 
 impl<'a> Clients<'a> {
-    /// No connections yet.
-    pub(crate) fn new(common: Common<'a>) -> Clients<'a> {
-        Clients {
-            each: Slab::new(common.alloc),
-            common,
-        }
-    }
-
     /// Adds a newcomer. The system is to report when it may be read and written.
     pub(crate) fn enters(&mut self, registry: &Registry, mut stream: TcpStream) {
         let key = self.each.vacant_key();
@@ -50,11 +42,15 @@ impl<'a> Clients<'a> {
 
     /// Does what is due for the client of this key, if it is still there: here it is looked up, and whatever is done for it reaches it and
     /// no other. It goes if that fails.
-    pub(crate) fn attend(&mut self, key: usize, due: Due) {
+    pub(crate) fn attend<F>(&mut self, key: usize, act: F)
+    where
+        F: FnOnce(&mut Common<'a>, &mut Client) -> Result<(), Gone>,
+        requires { F.IsAlwaysCallable act }
+    {
         let Some(client) = self.each.get_mut(key) else {
             return;
         };
-        if self.common.does(client, due).is_err() {
+        if act(&mut self.common, client).is_err() {
             self.common.watches_no_more(client);
             self.common.port.leaves(self.common.acceptor);
             let _ = self.each.try_remove(key);
@@ -62,9 +58,13 @@ impl<'a> Clients<'a> {
     }
 
     /// Does what is due for all.
-    pub(crate) fn attend_all(&mut self, due: Due) {
+    pub(crate) fn attend_all<F>(&mut self, act: F)
+    where
+        F: Fn(&mut Common<'a>, &mut Client) -> Result<(), Gone>,
+        requires { F.IsAlwaysCallable act }
+    {
         for key in 0..self.each.capacity() {
-            self.attend(key, due);
+            self.attend(key, &act);
         }
     }
 
@@ -72,16 +72,19 @@ impl<'a> Clients<'a> {
     pub(crate) fn hear_unread(&mut self) {
         let alloc = self.common.alloc;
         for key in mem::replace(&mut self.common.unread, Vec::new(alloc)) {
-            self.attend(key, Due::Rest);
+            self.attend(key, |common, client| common.hear(client, true));
             self.tell();
         }
     }
 
-    /// Tells clients the news that was found meanwhile.
+    /// Tells clients the news that was found meanwhile. One whose connection takes no more now waits for it.
     pub(crate) fn tell(&mut self) {
         let alloc = self.common.alloc;
         for key in mem::replace(&mut self.common.untold, Vec::new(alloc)) {
-            self.attend(key, Due::News);
+            self.attend(key, |common, client| match client.deadlines.waits_since {
+                Some(_) => Ok(()),
+                None => common.send(client),
+            });
         }
     }
 }

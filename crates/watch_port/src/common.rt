@@ -6,7 +6,7 @@ mod writing;
 use crate::audience::Audience;
 use crate::board_list::BoardList;
 use crate::board_table::BoardTable;
-use crate::client::{Client, Gone};
+use crate::client::Client;
 use crate::port::Port;
 use crate::watch_connection::{Doing, Watching};
 use c960_game::Refusal;
@@ -16,23 +16,6 @@ use server_loop::LoopClock;
 use slab::Slab;
 use std::alloc::{AllocError, Global};
 use std::mem;
-
-/// What is due for a client.
-#[derive(Clone, Copy)]
-pub(crate) enum Due {
-    /// What its connection did not take before.
-    Output,
-    /// News of what it watches. It waits if its connection takes no more now.
-    News,
-    /// What came from it, perhaps with the end of its output. It waits if it is to be read on.
-    Input(bool),
-    /// What it sent and its last turn left.
-    Rest,
-    /// To be looked at, all having been heard that had come by this second.
-    Look(u64),
-    /// To be told that serving ends.
-    ServingEnds,
-}
 
 /// What all connections of a loop share.
 #[derive(Drop)]
@@ -80,19 +63,6 @@ impl<'a> Common<'a> {
         self.clock.passed().as_secs()
     }
 
-    /// Does what is due for a client.
-    pub(crate) fn does(&mut self, client: &mut Client, due: Due) -> Result<(), Gone> {
-        match due {
-            Due::News if client.deadlines.waits_since.is_some() => Ok(()),
-            Due::News | Due::Output => self.send(client),
-            Due::Input(_) if client.is_unread => Ok(()),
-            Due::Input(has_ended) => self.hear(client, has_ended),
-            Due::Rest => self.hear(client, true),
-            Due::Look(now) => self.look_at(client, now),
-            Due::ServingEnds => self.tell_of_the_end(client),
-        }
-    }
-
     // ---- Who watches what.
 
     /// Lets a client follow a board from a place of its log, or from its present length, or refuses.
@@ -129,8 +99,7 @@ impl<'a> Common<'a> {
         client.connection.doing = Doing::WatchesAll(0);
         self.list.spectators.insert(client.key)?;
         // The others are told at the end of the turn, of all that has changed by then.
-        let now = self.now();
-        self.list.make_texts(&self.boards, now)
+        self.list.make_texts(&self.boards, self.clock.seconds())
     }
 
     /// A client no longer watches anything.

@@ -2,7 +2,7 @@
 
 use crate::board_table::BoardTable;
 use crate::clients::Clients;
-use crate::common::{Common, Due};
+use crate::common::Common;
 use crate::feed::Feed;
 use crate::port::Port;
 use c960_game::Limits;
@@ -11,6 +11,7 @@ use mio::{Registry, Token};
 use server_loop::{
     Arrival, LISTENER, LoopClock, LoopWaker, MOST_EVENTS, MOST_NEWCOMERS, Poller, Reserve, WAKER,
 };
+use slab::Slab;
 use std::alloc::Global;
 use std::io;
 use std::net::Net;
@@ -78,10 +79,12 @@ impl EventLoop {
         let clock = LoopClock::begin(rt)?;
         let common = Common::new(self.alloc, port, self.acceptor, clock, self.boards);
         let mut turns = Turns {
-            clients: Clients::new(common),
+            clients: Clients {
+                common,
+                each: Slab::new(self.alloc),
+            },
             reserve: Reserve::new(&port.listener),
             has_newcomers: true,
-            heard_by: 0,
             looked_at: 0,
             ends_at: None,
         };
@@ -102,9 +105,8 @@ struct Turns<'a> {
     reserve: Reserve,
     /// Whether there may be newcomers that the system does not report again.
     has_newcomers: bool,
-    /// Everything that clients had sent by this second has been heard, or is reported in this turn, but for those that are not heard now.
-    heard_by: u64,
-    /// The second by which clients were last looked at, once a second.
+    /// The second by which clients were last looked at, once a second. Everything that they had sent by then had been heard, or was
+    /// reported in that turn, but for those that were not heard then.
     looked_at: u64,
     /// The second in which the loop ends even if clients remain, once clients were told that the port closes.
     ends_at: Option<u64>,
@@ -133,25 +135,22 @@ impl<'a> Turns<'a> {
         let is_closing = self.clients.common.port.is_closing();
         self.clients.common.take_in_events();
         self.clients.hear_unread();
-        let mut told = 0usize;
+        let told = poller.events.iter().len();
         for event in poller.events.iter() {
             self.clients.common.clock.look(clock);
             self.handle(event);
-            told = told.saturating_add(1);
-        }
-        if told < MOST_EVENTS {
-            // The system has reported everything that had arrived when it was asked.
-            self.heard_by = asked;
         }
         self.clients.common.clock.look(clock);
         self.accept(poller.poll.registry(), told);
         self.clients.common.look_for_news();
         self.clients.tell();
-        // However long a turn took, or the program was suspended, no client is dropped for what it had sent in time.
-        if self.heard_by > self.looked_at {
-            self.looked_at = self.heard_by;
+        // The system has reported everything that had arrived when it was asked, unless that was too much. However long a turn took, or the
+        // program was suspended, no client is dropped for what it had sent in time.
+        if told < MOST_EVENTS && asked > self.looked_at {
+            self.looked_at = asked;
             self.clients.common.drop_audiences();
-            self.clients.attend_all(Due::Look(self.heard_by));
+            self.clients
+                .attend_all(|common, client| common.look_at(client, asked));
             // An accept that failed is tried again.
             self.has_newcomers = true;
         }
@@ -164,13 +163,19 @@ impl<'a> Turns<'a> {
             LISTENER => self.has_newcomers = true,
             WAKER => {}
             Token(key) => {
+                let clients = &mut self.clients;
                 if event.is_writable() {
-                    self.clients.attend(key, Due::Output);
+                    clients.attend(key, |common, client| common.send(client));
                 }
                 if event.is_readable() {
-                    self.clients.attend(key, Due::Input(event.is_read_closed()));
+                    let has_ended = event.is_read_closed();
+                    // One that is to be read on waits for that.
+                    clients.attend(key, |common, client| match client.is_unread {
+                        true => Ok(()),
+                        false => common.hear(client, has_ended),
+                    });
                 }
-                self.clients.tell();
+                clients.tell();
             }
         }
     }
@@ -200,7 +205,8 @@ impl<'a> Turns<'a> {
     /// The port closes. Clients are told, and then waited for. Returns whether this is over.
     fn is_over(&mut self, now: u64) -> bool {
         if self.ends_at.is_none() {
-            self.clients.attend_all(Due::ServingEnds);
+            self.clients
+                .attend_all(|common, client| common.tell_of_the_end(client));
             self.ends_at = Some(now.saturating_add(MOST_CLOSING_SECONDS));
         }
         self.clients.each.is_empty() || self.ends_at.is_some_and(|ends_at| now >= ends_at)

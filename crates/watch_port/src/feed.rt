@@ -7,27 +7,14 @@ ghost use Rattle.watch_port.specs.Telling.{IsPut, end_of, is_told_of_the_end, mo
 use crate::board_event::{BoardEvent, Progress};
 use crate::board_table::BoardTable;
 use c960_board::Move;
-use c960_game::{Limits, Outcome};
-use relay_core::BoardName;
+use c960_game::Limits;
+use relay_hall::Shown;
 use rtrb::{Producer, RingBuffer};
 use std::alloc::{AllocError, Global};
 use std::marker::Model;
 
 /// How many events a loop may have yet to take in. What is beyond that it is told later.
 const MOST_EVENTS: usize = 4096;
-
-/// A board of which loops are to be told.
-#[derive(Clone, Copy)]
-pub(crate) struct BoardUpdate<'a> {
-    /// Its index, in the order of opening.
-    pub(crate) at: u16,
-    pub(crate) name: BoardName,
-    pub(crate) start: u16,
-    /// The place of the first of its moves that are at hand. The loops were told of those before.
-    pub(crate) from: u16,
-    pub(crate) moves: &'a [Move],
-    pub(crate) outcome: Option<Outcome>,
-}
 
 /// What one loop is told. A ring that is full is no loss: what it does not take is told later, from where the loop is. Contracts see all
 /// that the loop was told.
@@ -93,53 +80,48 @@ impl Feed {
     pub(crate) fn moves_told(&self, at: u16) -> u16
         ensures { result ≡ moves_told self.now at }
     {
-        let told = self.told.get(usize::from(at));
-        told.map_or(0, |told| told.moves)
+        self.told.get(usize::from(at)).map_or(0, |told| told.moves)
     }
 
     /// Whether the loop was told how the game of the board of this index ended.
-    fn is_told_of_the_end(&self, at: u16) -> bool
+    fn knows_the_end(&self, at: u16) -> bool
         ensures { result ≡ is_told_of_the_end self.now at }
     {
         let told = self.told.get(usize::from(at));
         told.map_or(false, |told| told.is_over)
     }
 
-    /// Tells the loop of a board what it has not been told, in order, as far as there is room. Returns whether that is all.
-    pub(crate) fn tell(&mut self, board: &BoardUpdate<'_>) -> bool {
-        self.tell_opened(board) && self.tell_moves(board) && self.tell_end(board)
-    }
-
-    /// Tells the loop that a board was opened, once it knows of those before.
-    fn tell_opened(&mut self, board: &BoardUpdate<'_>) -> bool
-        ensures put { IsPut self.old (opening_of self.old board.now) result self.new }
-    {
-        let at = usize::from(board.at);
-        if at != self.told.len() {
-            return at < self.told.len();
+    /// Tells the loop of the board of this index what it has not been told, in order, as far as there is room. These are the moves from a
+    /// place on, and the loop was told of those before. Returns whether that is all.
+    pub(crate) fn tell(&mut self, at: u16, board: &Shown<'_>, from: u16, moves: &[Move]) -> bool {
+        if !self.tell_opened(at, board) {
+            return false;
         }
-        self.put(BoardEvent::Opened(board.name, board.start))
-    }
-
-    /// Tells the loop of the moves of which it has not been told.
-    fn tell_moves(&mut self, board: &BoardUpdate<'_>) -> bool {
-        let told = self.moves_told(board.at).saturating_sub(board.from);
-        for at in usize::from(told)..board.moves.len() {
-            if !self.put(BoardEvent::Played(board.at, board.moves[at])) {
+        let told = self.moves_told(at).saturating_sub(from);
+        for m in moves.iter().skip(usize::from(told)) {
+            if !self.put(BoardEvent::Played(at, *m)) {
                 return false;
             }
         }
-        true
+        self.tell_end(at, board)
+    }
+
+    /// Tells the loop that a board was opened, once it knows of those before.
+    fn tell_opened(&mut self, at: u16, board: &Shown<'_>) -> bool
+        ensures put { IsPut self.old (opening_of self.old at board.now) result self.new }
+    {
+        if usize::from(at) != self.told.len() {
+            return usize::from(at) < self.told.len();
+        }
+        self.put(BoardEvent::Opened(board.name(), board.start()))
     }
 
     /// Tells the loop how the game ended, once it has, and only once.
-    fn tell_end(&mut self, board: &BoardUpdate<'_>) -> bool
-        ensures put { IsPut self.old (end_of self.old board.now) result self.new }
+    fn tell_end(&mut self, at: u16, board: &Shown<'_>) -> bool
+        ensures put { IsPut self.old (end_of self.old at board.now) result self.new }
     {
-        match board.outcome {
-            Some(outcome) if !self.is_told_of_the_end(board.at) => {
-                self.put(BoardEvent::Ended(board.at, outcome))
-            }
+        match board.outcome() {
+            Some(outcome) if !self.knows_the_end(at) => self.put(BoardEvent::Ended(at, outcome)),
             _ => true,
         }
     }

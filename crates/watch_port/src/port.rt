@@ -120,11 +120,10 @@ impl Port {
         let interest = if at == 0 { ACCEPTS } else { RESTS };
         let listener = self.listener.as_raw_fd();
         registry.register(&mut SourceFd(&listener), LISTENER, interest)?;
-        let acceptor = Acceptor {
+        self.acceptors.push(Acceptor {
             registry: registry.try_clone()?,
             clients: AtomicU32::new(0),
-        };
-        self.acceptors.push(acceptor)?;
+        })?;
         Ok(at)
     }
 
@@ -133,15 +132,19 @@ impl Port {
         !self.is_closing() && self.accepting.load(Ordering::SeqCst) == at
     }
 
-    /// If there are far more connections here than elsewhere, the loop with the fewest accepts from now on.
+    /// If there are far more connections here than elsewhere, the loop with the fewest accepts from now on. It is told at once if somebody
+    /// waits. Nothing is changed after that, since that loop may have let another one accept by then.
     pub(crate) fn even_out(&self, at: usize) {
         let others = (0..self.acceptors.len()).map(|other| (self.clients(other), other));
         let (fewest, next) = others.min().unwrap_or((u32::MAX, at));
-        let most = fewest
-            .saturating_add(fewest / PART_AHEAD)
-            .saturating_add(MOST_AHEAD);
-        if self.clients(at) > most {
-            self.accept_instead(at, next);
+        let most_ahead = MOST_AHEAD + fewest / PART_AHEAD;
+        if self.clients(at).saturating_sub(fewest) <= most_ahead || self.set(at, RESTS).is_err() {
+            return;
+        }
+        self.accepting.store(next, Ordering::SeqCst);
+        if self.set(next, ACCEPTS).is_err() {
+            self.accepting.store(at, Ordering::SeqCst);
+            let _ = self.set(at, ACCEPTS);
         }
     }
 
@@ -163,19 +166,6 @@ impl Port {
     /// How many connections the loop of this one has.
     fn clients(&self, at: usize) -> u32 {
         self.acceptors.get(at).map_or(u32::MAX, |acceptor| acceptor.clients.load(Ordering::SeqCst))
-    }
-
-    /// The next one accepts instead of this one. Its loop is told at once if somebody waits. Nothing is changed after that, since that loop
-    /// may have let another one accept by then.
-    fn accept_instead(&self, at: usize, next: usize) {
-        if self.set(at, RESTS).is_err() {
-            return;
-        }
-        self.accepting.store(next, Ordering::SeqCst);
-        if self.set(next, ACCEPTS).is_err() {
-            self.accepting.store(at, Ordering::SeqCst);
-            let _ = self.set(at, ACCEPTS);
-        }
     }
 
     /// Sets what is reported to the loop of this one.

@@ -1,6 +1,6 @@
 //! What happens to boards, for all loops that show them.
 
-use crate::feed::{BoardUpdate, Feed};
+use crate::feed::Feed;
 use c960_board::Move;
 use c960_game::MOST_BOARDS;
 use relay_hall::Hall;
@@ -75,19 +75,11 @@ impl Publisher {
         let told = self.feeds.iter().map(|feed| feed.moves_told(at));
         let from = told.min().unwrap_or(u16::MAX);
         self.moves.clear();
-        let outcome = shown.moves_from(from, &mut self.moves)?;
-        let board = BoardUpdate {
-            at,
-            name: shown.name(),
-            start: shown.summary().start,
-            from,
-            moves: self.moves.as_slice(),
-            outcome,
-        };
+        shown.moves_from(from, &mut self.moves)?;
         self.is_fresh = true;
         let mut are_told = true;
         for feed in self.feeds.iter_mut() {
-            are_told = feed.tell(&board) && are_told;
+            are_told = feed.tell(at, &shown, from, self.moves.as_slice()) && are_told;
         }
         Ok(are_told)
     }

@@ -107,13 +107,6 @@ impl WatchConnection {
         Ok(())
     }
 
-    /// Whether the tape of what it watches comes next, and not output.
-    fn is_tapes_turn(&self, tape: &Tape, watching: &Watching) -> bool
-        ensures { result ≡ is_tapes_turn tape.now self.now watching.now }
-    {
-        self.written == 0 && (watching.is_within(tape) || self.has_no_output())
-    }
-
     /// Whether there is no output, now or later.
     pub(crate) fn has_no_output(&self) -> bool
         ensures { result ≡ has_no_output self.now }
@@ -121,85 +114,69 @@ impl WatchConnection {
         self.output.is_empty() && !self.is_leaving
     }
 
-    /// The bytes that are to be written next. There are none only if nothing is due. The tape is that of the board that it watches.
-    pub(crate) fn offered<'a>(&'a self, tape: Option<&'a Tape>) -> &'a [u8] {
-        match (&self.doing, tape) {
-            (Doing::Watches(watching), Some(tape)) => self.offered_of(tape, watching),
-            _ => self.output_left(),
-        }
-    }
-
-    /// The bytes that are to be written next to a connection that watches. If a frame of the tape is begun, they are of the tape, at most
-    /// up to the end of that frame if there is output; otherwise they are the output.
-    fn offered_of<'a>(&'a self, tape: &'a Tape, watching: &'a Watching) -> &'a [u8]
-        ensures tape { is_tapes_turn tape.now self.now watching.now ≡ true → result.now ≡ take (length result.now) (offered tape.now watching.now.spectator) }
-        ensures output { is_tapes_turn tape.now self.now watching.now ≡ false → result.now ≡ output_left self.now }
+    /// Whether it watches the board of this tape, and that comes next, and not output.
+    fn is_next(&self, tape: &Tape) -> bool
+        ensures { result ≡ is_next tape.now self.now }
     {
-        if !self.is_tapes_turn(tape, watching) {
-            return self.output_left();
-        }
-        if self.has_no_output() {
-            watching.spectator.due(tape)
-        } else {
-            watching.spectator.due_of_frame(tape)
+        match &self.doing {
+            Doing::Watches(watching) => {
+                self.written == 0 && (watching.is_within(tape) || self.has_no_output())
+            }
+            _ => false,
         }
     }
 
-    /// The bytes that are to be written after those offered, once all of these are written: what it watches, after its output.
-    pub(crate) fn offered_behind<'a>(&'a self, tape: Option<&'a Tape>) -> &'a [u8] {
+    /// The bytes that are to be written next. There are none only if nothing is due. The tape is that of the board that it watches: if a
+    /// frame of it is begun, they are of the tape, at most up to the end of that frame if there is output. Otherwise they are the output.
+    pub(crate) fn offered<'a>(&'a self, tape: Option<&'a Tape>) -> &'a [u8]
+        ensures tape { IfSome tape.entry (λ t. (w : Watching) → watched self.now.doing ≡ Some w → is_tapes_turn t.now self.now w ≡ true
+            → result.now ≡ take (length result.now) (offered t.now w.spectator)) }
+        ensures output { IfSome tape.entry (λ t. is_next t.now self.now ≡ false → result.now ≡ output_left self.now) }
+        ensures alone { IfNone tape.entry (result.now ≡ output_left self.now) }
+    {
         match (&self.doing, tape) {
-            (Doing::Watches(watching), Some(tape)) => self.offered_behind_output(tape, watching),
+            (Doing::Watches(watching), Some(tape)) if self.is_next(tape) => {
+                if self.has_no_output() {
+                    watching.spectator.due(tape)
+                } else {
+                    watching.spectator.due_of_frame(tape)
+                }
+            }
+            _ => self.output.get(self.written..).unwrap_or(&[]),
+        }
+    }
+
+    /// The bytes that are to be written after those offered, once all of these are written: what it watches, after its output, if it stays.
+    pub(crate) fn offered_behind<'a>(&'a self, tape: Option<&'a Tape>) -> &'a [u8]
+        ensures part { IfSome tape.entry (λ t. (w : Watching) → watched self.now.doing ≡ Some w
+            → result.now ≡ take (length result.now) (offered t.now w.spectator)) }
+        ensures alone { IfSome tape.entry (λ t. is_next t.now self.now ≡ true → result.now ≡ []) }
+        ensures behind { IfSome tape.entry (λ t. (next : WatchConnection) → HasWrittenOutput (length (output_left self.now)) self.now next
+            → is_next t.now next ≡ false → result.now ≡ []) }
+        ensures none { IfNone tape.entry (result.now ≡ []) }
+    {
+        match (&self.doing, tape) {
+            (Doing::Watches(watching), Some(tape)) if !self.is_leaving && !self.is_next(tape) => {
+                watching.spectator.due(tape)
+            }
             _ => &[],
         }
     }
 
-    /// The bytes of the tape that are to be written after the output to a connection that watches, if the output is offered and it stays.
-    fn offered_behind_output<'a>(&'a self, tape: &'a Tape, watching: &'a Watching) -> &'a [u8]
-        ensures part { result.now ≡ take (length result.now) (offered tape.now watching.now.spectator) }
-        ensures alone { is_tapes_turn tape.now self.now watching.now ≡ true → result.now ≡ [] }
-        ensures behind { (next : WatchConnection) → HasWrittenOutput (length (output_left self.now)) self.now next
-            → is_tapes_turn tape.now next watching.now ≡ false → result.now ≡ [] }
-    {
-        if self.is_leaving || self.is_tapes_turn(tape, watching) {
-            return &[];
-        }
-        watching.spectator.due(tape)
-    }
-
-    /// The part of the output that has not been written.
-    fn output_left(&self) -> &[u8]
-        ensures { result.now ≡ output_left self.now }
-    {
-        self.output.get(self.written..).unwrap_or(&[])
-    }
-
-    /// The first `n` of the bytes offered were written.
+    /// The first `n` of the bytes offered were written. Any beyond those offered are not counted.
     pub(crate) fn wrote(&mut self, tape: Option<&Tape>, n: usize)
         ensures tape { IfSome tape.entry (λ t. (w : Watching) → watched self.old.doing ≡ Some w → is_tapes_turn t.now self.old w ≡ true
             → n ≤ length (offered t.now w.spectator) → HasWrittenTape w n self.old self.new) }
         ensures output { IfSome tape.entry (λ t. is_next t.now self.old ≡ false → n ≤ length (output_left self.old) → HasWrittenOutput n self.old self.new) }
         ensures alone { IfNone tape.entry (n ≤ length (output_left self.old) → HasWrittenOutput n self.old self.new) }
     {
-        if let Some(tape) = tape {
-            if self.is_next(tape) {
-                self.wrote_tape(tape, n);
-                return;
-            }
-        }
-        self.wrote_output(n);
-    }
-
-    /// Whether it watches the board of this tape, and that comes next.
-    fn is_next(&self, tape: &Tape) -> bool
-        ensures { result ≡ is_next tape.now self.now }
-    {
-        match &self.doing {
-            Doing::Watches(watching) => self.is_tapes_turn(tape, watching),
-            _ => false,
+        match tape {
+            Some(tape) if self.is_next(tape) => self.wrote_tape(tape, n),
+            _ => self.wrote_output(n),
         }
     }
 
-    /// The first `n` of the bytes offered of what it watches were written. Any beyond those offered are not counted.
+    /// The first `n` of the bytes offered of what it watches were written.
     fn wrote_tape(&mut self, tape: &Tape, n: usize)
         ensures { (w : Watching) → watched self.old.doing ≡ Some w → n ≤ length (offered tape.now w.spectator) → HasWrittenTape w n self.old self.new }
     {

@@ -13,7 +13,7 @@ use std::alloc::AllocError;
 impl<'a> Common<'a> {
     /// Reads what a client sends, for a while, and answers it. A piece that is not full was the last of what had come, except for the end:
     /// the system reports everything that comes later. A client that may have sent more is read on in the next turn.
-    pub(super) fn hear(&mut self, client: &mut Client, may_have_ended: bool) -> Result<(), Gone> {
+    pub(crate) fn hear(&mut self, client: &mut Client, may_have_ended: bool) -> Result<(), Gone> {
         let mut piece = [0; PIECE_BYTES];
         let mut was_last = false;
         client.is_unread = false;

@@ -5,12 +5,12 @@ use crate::client::{Client, Gone};
 use crate::watch_connection::Doing;
 use relay_frames::{Code, outgoing};
 use relay_watching::Tape;
-use server_loop::{Delivery, Stage, Times, Verdict};
+use server_loop::{Stage, Times, Verdict};
 use std::alloc::AllocError;
 
 impl<'a> Common<'a> {
     /// Writes to a client what is due, as far as its connection takes it.
-    pub(super) fn send(&mut self, client: &mut Client) -> Result<(), Gone> {
+    pub(crate) fn send(&mut self, client: &mut Client) -> Result<(), Gone> {
         // Without memory for them, changes are due again with those of the others.
         let _ = self.put_changes(client, false);
         if client.is_draining {
@@ -18,20 +18,18 @@ impl<'a> Common<'a> {
         }
         let now = self.now();
         let tape = self.tape_of(client);
-        match client.send(tape, now) {
-            Delivery::Failed => return Err(Gone),
-            Delivery::Blocked => {}
-            Delivery::All => {
-                if client.connection.is_done(tape) {
-                    client.drains(now);
-                    self.watches_no_more(client);
-                } else {
-                    self.tells_on(client);
-                }
-                self.reads_on(client)?;
-            }
+        if !client.send(tape, now)? {
+            return Ok(());
         }
-        Ok(())
+        if client.connection.is_done(tape) {
+            client.drains(now);
+            self.watches_no_more(client);
+        } else if matches!(client.connection.doing, Doing::WatchesAll(told) if told != self.list.changes)
+        {
+            // It is sent with the others what has changed while that was written.
+            self.list.told = 0;
+        }
+        Ok(self.reads_on(client)?)
     }
 
     /// The tape of the board that a client watches, if it watches one.
@@ -57,13 +55,6 @@ impl<'a> Common<'a> {
         Ok(())
     }
 
-    /// A client that watches all boards and was sent everything is sent with the others what has changed while that was written.
-    fn tells_on(&mut self, client: &Client) {
-        if matches!(client.connection.doing, Doing::WatchesAll(told) if told != self.list.changes) {
-            self.list.told = 0;
-        }
-    }
-
     /// A client that was not heard until what it is owed is written is heard again. Its unfinished message has its time from now on.
     fn reads_on(&mut self, client: &mut Client) -> Result<(), AllocError> {
         if client.connection.is_owed_first() || !client.is_full {
@@ -79,12 +70,10 @@ impl<'a> Common<'a> {
 
     /// Does what is due for a client by the second `now`.
     #[tactic(auto, unfolding(relay_frames::specs::Codes::may_be_sent))]
-    pub(super) fn look_at(&mut self, client: &mut Client, now: u64) -> Result<(), Gone> {
+    pub(crate) fn look_at(&mut self, client: &mut Client, now: u64) -> Result<(), Gone> {
         let (stage, most_idle) = (client.stage(), self.port.most_idle);
-        match client
-            .deadlines
-            .verdict(&Times::WATCH_PORT, now, stage, most_idle)
-        {
+        let deadlines = &mut client.deadlines;
+        match deadlines.verdict(&Times::WATCH_PORT, now, stage, most_idle) {
             Verdict::Stays => Ok(()),
             Verdict::Ping => {
                 outgoing::ping(b"", &mut client.connection.output)?;
@@ -99,7 +88,7 @@ impl<'a> Common<'a> {
 
     /// Serving ends: a client that asks for nothing is told so, and so is one that watches a board whose game goes on.
     #[tactic(auto, unfolding(relay_frames::specs::Codes::may_be_sent))]
-    pub(super) fn tell_of_the_end(&mut self, client: &mut Client) -> Result<(), Gone> {
+    pub(crate) fn tell_of_the_end(&mut self, client: &mut Client) -> Result<(), Gone> {
         match client.stage() {
             Stage::Comes => Err(Gone),
             Stage::Asks => self.close(client, Code::AWAY),
