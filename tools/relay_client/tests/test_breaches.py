@@ -1,5 +1,6 @@
 """Peers that break the protocol: each gets the close code that RFC 6455 names for what it did, and no reset in its place."""
 
+import contextlib
 import socket
 import struct
 import time
@@ -7,8 +8,9 @@ import unittest
 
 from relay_client.connection import Connection
 from relay_client.frames import CLOSE, MASK, PING, PONG, TEXT, head, masked
-from relay_client.tests.sessions import main_port, watch_port
-from relay_client.texts import BAD_FIELD, NOT_JSON
+from relay_client.server import Server
+from relay_client.tests.sessions import main_port, owner_of, watch_port
+from relay_client.texts import BAD_FIELD, NOT_JSON, following, follows
 
 BINARY = 0x82
 FIRST_OF_TEXT, FIRST_OF_BINARY, MIDDLE, LAST = 0x01, 0x02, 0x00, 0x80
@@ -44,7 +46,7 @@ CONTROLS = {
     **{f"control frame {first:#x} in fragments (5.5)": masked(first ^ FINAL, b"") for first in (PING, PONG, CLOSE)},
     **{f"control frame {first:#x} of 126 bytes (5.5)": masked(first, bytes(126)) for first in (PING, PONG, CLOSE)},
     "a close of one byte (5.5.1)": masked(CLOSE, b"\x03"),
-    **{f"a close with code {number} (7.4)": code(number) for number in (0, 999, 1004, 1005, 1006, 1015, 1016, 2999, 5000, 65535)},
+    **{f"a close with code {number} (7.4)": code(number) for number in (0, 999, 1004, 1005, 1006, 1014, 1015, 1016, 2999, 5000, 65535)},
 }
 
 PLACES = {
@@ -167,3 +169,15 @@ class Breaches(unittest.TestCase):
 
 class BreachesOfThoseWhoWatch(Breaches):
     listening = staticmethod(watch_port)
+
+
+class BreachesBehindAFollow(unittest.TestCase):
+    def test_a_message_that_is_too_long_is_told_1009_and_on_the_watch_port_24_before(self):
+        with Server("--forever", watch=True) as server, contextlib.closing(owner_of(server)):
+            for port, told in (server.port, [TOO_BIG]), (server.watch_port, [BAD_FIELD, TOO_BIG]):
+                for name, sent in {**LONG, **LONG_HEADS}.items():
+                    with self.subTest(name, told=told), contextlib.closing(Connection(port)) as peer:
+                        peer.asks(follows("b1"), following())
+                        peer.stream.sendall(sent)
+                        self.assertEqual([peer.receive_any() for _ in told], told)
+                        peer.has_ended()

@@ -1,6 +1,7 @@
 """The port for those who only watch: the same texts as on the main port, whatever guests come and however they behave."""
 
 import concurrent.futures
+import contextlib
 import errno
 import pathlib
 import random
@@ -418,6 +419,23 @@ class Limits(unittest.TestCase):
             for watcher in (*watchers, later):
                 watcher.hears(moved("e2e4", 0))
             close_all(owner, later, *watchers)
+
+    def test_one_that_was_told_to_come_again_counts_until_it_has_gone(self):
+        with Server("--forever", "--watch-most", "1", watch=True) as server:
+            watcher, refused = Connection(server.watch_port), Connection(server.watch_port)
+            refused.hears(AGAIN)
+            watcher.close()
+            time.sleep(1)
+            newcomer = Connection(server.watch_port)
+            newcomer.hears(AGAIN)
+            close_all(refused, newcomer)
+            until = time.monotonic() + SOON
+            while time.monotonic() < until:
+                with contextlib.closing(Connection(server.watch_port)) as later:
+                    later.send(follows("b1"))
+                    if later.receive() == NO_BOARD:
+                        return
+            self.fail("no place came free")
 
     def test_newcomers_without_a_descriptor_are_told_so_and_nobody_else_feels_it(self):
         with Server("--forever", "--watch-threads", "1", watch=True) as server:
