@@ -4,6 +4,7 @@ ghost use Rattle.std.specs.Prelude.{◌≡◌, ◌≤◌, ◌+◌, IfSome, false
 ghost use Rattle.main_port.specs.Meeting.{OnlyMeets, is_full, met_by, met_of, met_one, none_met};
 
 use crate::clients::Clients;
+use crate::clients::turns::MOST_OTHERS_MICROS;
 use crate::serve_end::ServeEnd;
 use crate::settings::Settings;
 use crate::watchers::Watchers;
@@ -107,7 +108,7 @@ impl<'a> Acceptor<'a> {
     )
         ensures { OnlyMeets self.old self.new }
     {
-        let until = clients.time_for_newcomers();
+        let until = clients.common.time_for(MOST_OTHERS_MICROS);
         for _ in 0..told.clamp(1, MOST_NEWCOMERS) {
             if self.accepts_in(clients.now()) != Some(0) {
                 return;

@@ -5,9 +5,6 @@ use relay_hall::{Hall, Key};
 use server_loop::{Counts, Log, LogLine};
 use std::sync::Wait;
 
-/// How many boards there may be.
-const BOARDS: usize = MOST_BOARDS as usize;
-
 /// The log, as far as it tells of boards. Where none is kept nothing is looked for.
 #[derive(Drop)]
 pub(crate) struct BoardLog<'a, R> {
@@ -15,7 +12,7 @@ pub(crate) struct BoardLog<'a, R> {
     log: &'a Log,
     counts: Counts,
     /// Whether the log was told that the board of an index waits for its operator, and not that it is back.
-    waits: [bool; BOARDS],
+    waits: [bool; MOST_BOARDS as usize],
 }
 
 impl<'a, R: Wait> BoardLog<'a, R> {
@@ -25,7 +22,7 @@ impl<'a, R: Wait> BoardLog<'a, R> {
             rt,
             log,
             counts: Counts::default(),
-            waits: [false; BOARDS],
+            waits: [false; MOST_BOARDS as usize],
         }
     }
 
@@ -46,8 +43,8 @@ impl<'a, R: Wait> BoardLog<'a, R> {
         };
         if let Some(outcome) = shown.outcome() {
             self.counts.ended = self.counts.ended.saturating_add(1);
-            self.log
-                .note(self.rt, LogLine::Ended(shown.name(), outcome));
+            let line = LogLine::Ended(shown.name(), outcome);
+            self.log.note(self.rt, line);
         }
     }
 
@@ -66,29 +63,20 @@ impl<'a, R: Wait> BoardLog<'a, R> {
             return;
         }
         let waits = hall.waits(key);
-        for at in 0..hall.len() {
-            self.note_own(hall, at, key, waits);
+        for (at, has_waited) in self.waits.iter_mut().enumerate() {
+            let Some(shown) = hall.board(at) else {
+                return;
+            };
+            if *has_waited == waits || !shown.belongs_to(key) {
+                continue;
+            }
+            *has_waited = waits;
+            match shown.outcome() {
+                Some(_) => {}
+                None if waits => self.log.note(self.rt, LogLine::Waits(shown.name())),
+                None => self.log.note(self.rt, LogLine::IsBack(shown.name())),
+            }
         }
-    }
-
-    /// Notes of the board of this index that it waits, or does no more, if it belongs to this key, its game goes on, and that is news.
-    fn note_own(&mut self, hall: &Hall, at: usize, key: &Key, waits: bool) {
-        let Some(shown) = hall.board(at) else {
-            return;
-        };
-        if at >= BOARDS || self.waits[at] == waits || !shown.belongs_to(key) {
-            return;
-        }
-        self.waits[at] = waits;
-        if shown.outcome().is_some() {
-            return;
-        }
-        let line = if waits {
-            LogLine::Waits(shown.name())
-        } else {
-            LogLine::IsBack(shown.name())
-        };
-        self.log.note(self.rt, line);
     }
 
     /// So many connections there are, so many of them follow, and so many boards.

@@ -4,6 +4,7 @@ use c960_game::Limits;
 use indexmap::IndexSet;
 use std::alloc::{AllocError, Global};
 use std::collections::VecDeque;
+use std::mem;
 
 /// A board. What is counted of it are its changes since all who follow it had their turn: a round.
 #[derive(Drop)]
@@ -74,9 +75,7 @@ impl Boards {
     ///
     /// There was no memory, or there is no such board.
     pub(crate) fn add(&mut self, at: usize, number: u64) -> Result<(), AllocError> {
-        let Some(board) = self.each.get_mut(at) else {
-            return Err(AllocError);
-        };
+        let board = self.each.get_mut(at).ok_or(AllocError)?;
         board.followers.insert(number)?;
         Ok(())
     }
@@ -105,11 +104,8 @@ impl Boards {
 
     /// How many connections follow some board.
     pub(crate) fn total(&self) -> u64 {
-        let mut total: u64 = 0;
-        for board in self.each.iter() {
-            total = total.saturating_add(board.followers.len() as u64);
-        }
-        total
+        let counts = self.each.iter().map(|board| board.followers.len() as u64);
+        counts.fold(0, u64::saturating_add)
     }
 
     // ---- Whose turn it is.
@@ -125,9 +121,7 @@ impl Boards {
         let Some(board) = self.each.get_mut(at) else {
             return false;
         };
-        let shares = board.owned == self.turns;
-        board.owned = self.turns;
-        shares
+        mem::replace(&mut board.owned, self.turns) == self.turns
     }
 
     /// One more turn of a follower is due.

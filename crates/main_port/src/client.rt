@@ -134,51 +134,10 @@ impl Client {
         }
     }
 
-    /// A piece came from it that was not full: it was the last of what had come, except for the end.
-    pub(crate) fn has_sent_little(&mut self) {
-        if self.input == Input::Something {
-            self.input = Input::Nothing;
-        }
-    }
-
     /// It has paused, and is read again.
     pub(crate) fn has_paused(&mut self) {
         self.state = State::Talks;
         self.refused = 0;
-    }
-
-    /// It is not answered before what is due is written. The rest of a message of one that follows is not waited for meanwhile: what is due
-    /// to it is not its own doing.
-    pub(crate) fn waits_for_room(&mut self) {
-        self.state = State::Full;
-        if self.follows() {
-            self.deadlines.owes_no_rest();
-        }
-    }
-
-    /// Something came from it, and was answered. After a message its time begins again. The rest of a message is waited for only once
-    /// everything before it is answered. One whose rest was waited for before goes on to owe it meanwhile: else pings in the middle of a
-    /// message, as many as one turn does not answer, would begin its time again.
-    pub(crate) fn has_heard(
-        &mut self,
-        now: u64,
-        has_said: bool,
-        has_come_whole: bool,
-        is_midway: bool,
-    ) {
-        if has_said {
-            self.deadlines.begins(now);
-        }
-        if has_come_whole {
-            self.deadlines.owes_no_rest();
-        }
-        let is_behind = matches!(self.state, State::Interrupted | State::Full);
-        let owes = if is_behind {
-            self.deadlines.midway_since.is_some()
-        } else {
-            is_midway
-        };
-        self.deadlines.hears(now, owes);
     }
 
     /// A piece came from it that is dropped, since everything was written to it. Returns whether it may send more.

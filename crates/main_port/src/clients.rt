@@ -4,10 +4,10 @@ ghost use Rattle.std.specs.Prelude.{◌≡◌, None};
 ghost use Rattle.main_port.specs.Others.{OthersStay, client_in};
 
 mod timing;
-mod turns;
+pub(crate) mod turns;
 
 use crate::client::{Client, Ends};
-use crate::common::{Common, Due};
+use crate::common::Common;
 use crate::watchers::Watchers;
 use indexmap::IndexMap;
 use mio::net::TcpStream;
@@ -48,13 +48,8 @@ impl<'a, R: Wait + Clock, W: Watchers> Clients<'a, R, W> {
     pub(crate) fn end(self) -> (Option<io::Error>, W)
         ensures { result.0 ≡ self.entry.common.journal_failure }
     {
-        let Clients { common, .. } = self;
-        let Common {
-            journal_failure,
-            watchers,
-            ..
-        } = common;
-        (journal_failure, watchers)
+        let common = self.common;
+        (common.journal_failure, common.watchers)
     }
 
     /// The millisecond of the loop's clock.
@@ -81,15 +76,18 @@ impl<'a, R: Wait + Clock, W: Watchers> Clients<'a, R, W> {
         true
     }
 
-    /// Does what is due for the connection of this number, if it is still there: here it is looked up, and whatever is done for it reaches
-    /// it and no other. Only what comes of that is done here: others may be due a turn before it has another, or it goes.
-    fn attend(&mut self, number: u64, due: Due)
+    /// Does this for the connection of this number, if it is still there: here it is looked up, and whatever is done for it reaches it and
+    /// no other. Only what comes of that is done here: others may be due a turn before it has another, or it goes.
+    fn attend<F>(&mut self, number: u64, act: F)
+    where
+        F: FnOnce(&mut Common<'a, R, W>, &mut Client) -> Result<(), Ends>,
+        requires { F.IsAlwaysCallable act }
         ensures { OthersStay number self.old.each.entries self.new.each.entries }
     {
         let Some(client) = self.each.get_mut(&number) else {
             return;
         };
-        match self.common.does(client, due) {
+        match act(&mut self.common, client) {
             Ok(()) => {}
             Err(Ends::FarAhead) => {
                 self.spreads_changes();

@@ -6,41 +6,22 @@ ghost use Rattle.main_port.specs.Others.{but_for_turns};
 
 mod changes;
 mod committing;
-mod leaving;
 mod looking;
 mod reading;
 mod writing;
 
 use crate::board_log::BoardLog;
 use crate::boards::Boards;
-use crate::client::{Client, Ends, Role, State};
+use crate::client::{Client, Role};
 use crate::settings::Settings;
 use crate::watchers::Watchers;
 use chained_lines::StableFile;
-pub(crate) use committing::MOST_UNSENT_WITH_JOURNAL;
 use relay_durable::DurableService;
 use server_loop::{Backoff, Log, LoopClock, Rank, RunQueue};
 use std::alloc::Global;
 use std::io;
 use std::sync::Wait;
 use std::time::{Clock, Duration};
-
-/// What is due for a connection.
-#[derive(Clone, Copy)]
-pub(crate) enum Due {
-    /// Its turn, if it is still due one.
-    Turn,
-    /// What it was answered, and the moves of the board that it follows.
-    Answers,
-    /// The end of its pause.
-    PauseEnds,
-    /// To be looked at, all having been heard that had come by this millisecond.
-    Look(u64),
-    /// To leave the hall, which it was to leave behind a tick.
-    Leaving,
-    /// To be told that serving ends.
-    ServingEnds,
-}
 
 /// What all connections share.
 #[derive(Drop)]
@@ -64,10 +45,7 @@ pub(crate) struct Common<'a, R, W> {
     pub(crate) late: Vec<u64>,
     /// How many have yet to shake hands.
     pub(crate) coming: u64,
-    /// How many moves of its board's log a follower may be behind.
-    capacity: u64,
-    /// For how many milliseconds a connection is waited for that owns no board and sends no message, if that is bounded.
-    most_idle: Option<u64>,
+    settings: Settings,
     /// All that the system reports now has come since this millisecond.
     pub(crate) since: u64,
 }
@@ -103,30 +81,8 @@ impl<'a, R: Wait + Clock, W: Watchers> Common<'a, R, W> {
             clock,
             late: Vec::new(alloc),
             coming: 0,
-            capacity: u64::from(settings.limits.capacity()),
-            most_idle: settings.idle,
+            settings: *settings,
             since: 0,
-        }
-    }
-
-    /// Does what is due for a connection.
-    pub(crate) fn does(&mut self, client: &mut Client, due: Due) -> Result<(), Ends> {
-        match due {
-            Due::Turn => self.takes_turn(client),
-            Due::Answers => self.deliver(client),
-            Due::PauseEnds => {
-                if client.state == State::Pauses {
-                    client.has_paused();
-                    self.stands_due(client);
-                }
-                Ok(())
-            }
-            Due::Look(now) => self.look_at(client, now),
-            Due::Leaving => {
-                self.leaves_hall(client.number(), Some(&mut *client));
-                Ok(())
-            }
-            Due::ServingEnds => self.tell_of_the_end(client),
         }
     }
 
@@ -162,9 +118,8 @@ impl<'a, R: Wait + Clock, W: Watchers> Common<'a, R, W> {
     /// Until when a slice of this many microseconds lasts that begins now.
     pub(crate) fn time_for(&mut self, micros: u64) -> Duration {
         self.clock.look(self.rt);
-        self.clock
-            .passed()
-            .saturating_add(Duration::from_micros(micros))
+        let passed = self.clock.passed();
+        passed.saturating_add(Duration::from_micros(micros))
     }
 
     /// Whether it is this late.

@@ -60,7 +60,7 @@ impl<'a, R: Wait + Clock, W: Watchers> EventLoop<'a, R, W> {
         ensures journal { result.has_journal ≡ is_some clients.entry.common.service.scribe }
     {
         EventLoop {
-            has_journal: clients.common.has_journal(),
+            has_journal: clients.common.service.has_journal(),
             clients,
             acceptor,
             reported_by: 0,
@@ -131,7 +131,10 @@ impl<'a, R: Wait + Clock, W: Watchers> EventLoop<'a, R, W> {
             return;
         }
         let since = self.late_since.unwrap_or(now);
-        let heard = if self.has_heard_all() {
+        // Nobody is waiting to be accepted, and all has been heard that had come by then, also from those that were accepted since.
+        let has_heard_all = self.acceptor.accepts_in(now).is_none()
+            && self.heard_by >= self.ticks_at.max(self.acceptor.heard_from());
+        let heard = if has_heard_all {
             self.heard_by
         } else if now.saturating_sub(since) >= MOST_LATE_MILLIS {
             since
@@ -145,14 +148,6 @@ impl<'a, R: Wait + Clock, W: Watchers> EventLoop<'a, R, W> {
             None => TICK_MILLIS,
         };
         self.ticks_at = heard.saturating_add(next);
-    }
-
-    /// Whether nobody is waiting to be accepted, and all has been heard that had come when the hall was to be told the time, also from
-    /// those that were accepted since.
-    fn has_heard_all(&self) -> bool {
-        self.acceptor.accepts_in(self.clients.now()).is_none()
-            && self.heard_by >= self.acceptor.heard_from()
-            && self.heard_by >= self.ticks_at
     }
 
     /// Handles what the system reported, and what is due. Returns whether it was the last turn. None is while newcomers come in, unless the

@@ -1,7 +1,7 @@
 //! What is due as time passes.
 
 use super::Clients;
-use crate::common::Due;
+use crate::common::Common;
 use crate::watchers::Watchers;
 use std::mem;
 use std::sync::Wait;
@@ -24,7 +24,7 @@ impl<'a, R: Wait + Clock, W: Watchers> Clients<'a, R, W> {
             let Some(number) = self.common.backoff.take(now) else {
                 return;
             };
-            self.attend(number, Due::PauseEnds);
+            self.attend(number, Common::ends_pause);
         }
     }
 
@@ -45,32 +45,28 @@ impl<'a, R: Wait + Clock, W: Watchers> Clients<'a, R, W> {
             self.unlooked = self.each.len();
             let common = &mut self.common;
             let boards = common.service.hall().len();
-            common
-                .log
-                .counts(self.unlooked, common.boards.total(), boards);
+            let followers = common.boards.total();
+            common.log.counts(self.unlooked, followers, boards);
         }
+        let looked_at = self.looked_at;
         let until = self.common.time_for(MOST_LOOKING_MICROS);
         for _ in 0..MOST_LOOKED_AT {
             if !self.is_looking() || self.common.is_late(until) {
                 break;
             }
-            self.look_at_next();
+            // The last of them. If one goes, the last of all takes its place, which has been looked at.
+            self.unlooked = self.unlooked.saturating_sub(1);
+            if let Some(number) = self.number_at(self.unlooked) {
+                self.attend(number, |common, client| common.look_at(client, looked_at));
+            }
         }
         begins
     }
 
-    /// Looks at the last of those that have yet to be looked at. If one goes, the last of all takes its place, which has been looked at.
-    fn look_at_next(&mut self) {
-        self.unlooked = self.unlooked.saturating_sub(1);
-        self.attend_at(self.unlooked, Due::Look(self.looked_at));
-    }
-
-    /// Does what is due for the connection that has this place among all.
-    fn attend_at(&mut self, index: usize, due: Due) {
-        if let Some((number, _)) = self.each.get_index(index) {
-            let number = *number;
-            self.attend(number, due);
-        }
+    /// The number of the connection that has this place among all.
+    fn number_at(&self, index: usize) -> Option<u64> {
+        let (number, _) = self.each.get_index(index)?;
+        Some(*number)
     }
 
     // ---- The time, and the end.
@@ -86,7 +82,7 @@ impl<'a, R: Wait + Clock, W: Watchers> Clients<'a, R, W> {
 
     /// Nobody can come back any more: boards that wait are ended, unless a journal keeps them for the next start.
     pub(crate) fn shut(&mut self) {
-        if !self.common.has_journal() {
+        if !self.common.service.has_journal() {
             self.common.service.shut();
             self.notes_all();
         }
@@ -94,25 +90,28 @@ impl<'a, R: Wait + Clock, W: Watchers> Clients<'a, R, W> {
 
     /// Serving ends: so do all boards, unless a journal keeps them for the next start. Connections are told.
     pub(crate) fn end_all(&mut self) {
-        if !self.common.has_journal() {
+        if !self.common.service.has_journal() {
             self.common.service.end_all();
             self.notes_all();
         }
         self.common.watchers.has_ended();
         for index in (0..self.each.len()).rev() {
-            self.attend_at(index, Due::ServingEnds);
+            if let Some(number) = self.number_at(index) {
+                self.attend(number, Common::tell_of_the_end);
+            }
         }
     }
 
     /// Notes what became of the boards by themselves. Those leave who were to leave behind that.
     fn notes_all(&mut self) {
-        let boards = self.common.service.hall().len();
-        self.common.gather(boards);
-        let alloc = self.common.alloc;
-        let late = mem::replace(&mut self.common.late, Vec::new(alloc));
-        for number in late {
+        self.common.gather();
+        let none = Vec::new(self.common.alloc);
+        for number in mem::replace(&mut self.common.late, none) {
             if self.each.contains_key(&number) {
-                self.attend(number, Due::Leaving);
+                self.attend(number, |common, client| {
+                    common.leaves_hall(client.number(), Some(client));
+                    Ok(())
+                });
             } else if self.common.leaves_hall(number, None) {
                 self.common.service.disconnect(number);
             }

@@ -4,22 +4,22 @@ ghost use Rattle.std.specs.Prelude.{◌≡◌};
 ghost use Rattle.main_port.specs.Others.{AllStay};
 
 use super::Clients;
-use crate::common::Due;
+use crate::client::Client;
+use crate::common::Common;
 use crate::watchers::Watchers;
 use c960_game::MOST_BOARDS;
-use mio::event::Event;
 use mio::{Events, Token};
 use server_loop::{LISTENER, Rank, WAKER};
 use std::sync::Wait;
 use std::thread::yield_now;
-use std::time::{Clock, Duration};
+use std::time::Clock;
 
 /// For how many microseconds those that follow a board are served in a turn. An owner whose move comes meanwhile waits for that.
 const MOST_FOLLOWERS_MICROS: u64 = 60;
 
 /// For how many microseconds connections that neither own nor follow a board are served in a turn, and newcomers accepted: about as long as
 /// one of them takes, so that an owner whose move comes meanwhile hardly waits for more than that one.
-const MOST_OTHERS_MICROS: u64 = 20;
+pub(crate) const MOST_OTHERS_MICROS: u64 = 20;
 
 impl<'a, R: Wait + Clock, W: Watchers> Clients<'a, R, W> {
     // ---- Who is due one.
@@ -33,18 +33,15 @@ impl<'a, R: Wait + Clock, W: Watchers> Clients<'a, R, W> {
             match event.token() {
                 LISTENER => has_newcomers = true,
                 WAKER => {}
-                Token(number) => self.notes_event(number as u64, event),
+                Token(number) => {
+                    if let Some(client) = self.each.get_mut(&(number as u64)) {
+                        client.is_reported(event.is_readable(), event.is_read_closed());
+                        self.common.stands_due(client);
+                    }
+                }
             }
         }
         has_newcomers
-    }
-
-    /// Notes one thing that the system reported: that a connection may be read or written, or that its output has ended.
-    fn notes_event(&mut self, number: u64, event: &Event) {
-        if let Some(client) = self.each.get_mut(&number) {
-            client.is_reported(event.is_readable(), event.is_read_closed());
-            self.common.stands_due(client);
-        }
     }
 
     /// Those who follow a board that has changed are due a turn. Whoever changed it is answered before: a thousand take as long as half an
@@ -107,7 +104,7 @@ impl<'a, R: Wait + Clock, W: Watchers> Clients<'a, R, W> {
         self.common.boards.begins_turn();
         let most = self.common.most_owners_micros();
         self.serve(Rank::Owner, most);
-        if !self.common.has_journal() {
+        if !self.common.service.has_journal() {
             self.send_answers();
         }
         self.serve_rank(Rank::Sibling, most / 2);
@@ -126,28 +123,16 @@ impl<'a, R: Wait + Clock, W: Watchers> Clients<'a, R, W> {
             let Some(number) = self.common.queue.take(rank) else {
                 break;
             };
-            if rank == Rank::Follower && !self.follows(number) {
+            if rank == Rank::Follower && !self.each.get(&number).is_some_and(Client::follows) {
                 // An owner that waited for its followers: those before it have their moves before it makes another.
                 self.send_answers();
             }
-            self.attend(number, Due::Turn);
+            self.attend(number, Common::takes_turn);
             self.queues_answers(number);
             if self.common.is_late(until) {
                 break;
             }
         }
-    }
-
-    /// Whether a connection follows a board.
-    fn follows(&self, number: u64) -> bool {
-        self.each
-            .get(&number)
-            .is_some_and(|client| client.follows())
-    }
-
-    /// Until when newcomers are accepted if that begins now.
-    pub(crate) fn time_for_newcomers(&mut self) -> Duration {
-        self.common.time_for(MOST_OTHERS_MICROS)
     }
 
     // ---- What they are answered.
@@ -156,7 +141,7 @@ impl<'a, R: Wait + Clock, W: Watchers> Clients<'a, R, W> {
     fn queues_answers(&mut self, number: u64) {
         if self.unsent.push(number).is_err() {
             self.send_answers();
-            self.attend(number, Due::Answers);
+            self.attend(number, Common::deliver);
         }
         if self.unsent.len() >= self.common.most_unsent() {
             self.send_answers();
@@ -173,7 +158,7 @@ impl<'a, R: Wait + Clock, W: Watchers> Clients<'a, R, W> {
             let Some(number) = self.unsent.get(at).copied() else {
                 break;
             };
-            self.attend(number, Due::Answers);
+            self.attend(number, Common::deliver);
         }
         self.unsent.clear();
     }

@@ -13,9 +13,8 @@ use std::time::Clock;
 impl<'a, R: Wait + Clock, W: Watchers> Common<'a, R, W> {
     // ---- Boards.
 
-    /// Notes what an event made of the boards, of which there were so many before. Returns whether a board is as far ahead of its followers
-    /// as it may be.
-    pub(crate) fn gather(&mut self, boards: usize) -> bool {
+    /// Notes at which boards the game has changed. Returns whether one of them is as far ahead of its followers as it may be.
+    pub(crate) fn gather(&mut self) -> bool {
         let mut is_far_ahead = false;
         for _ in 0..MOST_BOARDS {
             let Some(at) = self.service.take_changed() else {
@@ -23,32 +22,24 @@ impl<'a, R: Wait + Clock, W: Watchers> Common<'a, R, W> {
             };
             self.watchers.changed(at);
             self.log.ended(self.service.hall(), at);
-            let waiting = self.queue.len(Rank::Follower);
-            is_far_ahead = self.boards.changes(at, waiting) || is_far_ahead;
-        }
-        if self.service.hall().len() > boards {
-            self.watchers.changed(boards);
-            self.log.opened(self.service.hall(), boards);
+            is_far_ahead |= self.boards.changes(at, self.queue.len(Rank::Follower));
         }
         is_far_ahead
     }
 
     /// Those who watch are told what has changed, once all that boards have is on the disk, if they are kept there. Returns whether it is.
     pub(crate) fn tell_watchers(&mut self) -> bool {
-        if !self.commits() {
+        self.commits();
+        let Some(hall) = self.service.settled_hall() else {
             return false;
-        }
-        if let Some(hall) = self.service.settled_hall() {
-            self.watchers.tell(hall);
-        }
+        };
+        self.watchers.tell(hall);
         true
     }
 
     /// Wakes those who watch, if they were told anything. What they have yet to be told is on the disk before, if boards are kept there.
     pub(crate) fn wake_watchers(&mut self) {
-        if !self.commits() {
-            return;
-        }
+        self.commits();
         if let Some(hall) = self.service.settled_hall() {
             self.are_told = self.watchers.wake(hall);
         }
@@ -73,18 +64,12 @@ impl<'a, R: Wait + Clock, W: Watchers> Common<'a, R, W> {
 
     /// What a connection is to boards that was this before.
     fn role(&self, number: u64, was: Role) -> Role {
-        if self.service.stage(number) == Some(Stage::Follows) {
-            if let Some(at) = self.service.place(number) {
-                return Role::Follower(at);
-            }
-        }
-        if let Role::Owner(_) = was {
-            return was;
-        }
-        if self.service.is_owner(number) {
-            Role::Owner(self.first_board(number))
-        } else {
-            Role::Other
+        let follows = self.service.stage(number) == Some(Stage::Follows);
+        match (self.service.place(number), was) {
+            (Some(at), _) if follows => Role::Follower(at),
+            (_, Role::Owner(_)) => was,
+            _ if self.service.is_owner(number) => Role::Owner(self.first_board(number)),
+            _ => Role::Other,
         }
     }
 
@@ -94,12 +79,9 @@ impl<'a, R: Wait + Clock, W: Watchers> Common<'a, R, W> {
         let Some(Owner { key: Some(key), .. }) = self.service.owner(number) else {
             return 0;
         };
-        for at in 0..hall.len() {
-            if hall.board(at).is_some_and(|shown| shown.belongs_to(&key)) {
-                return at;
-            }
-        }
-        0
+        (0..hall.len())
+            .find(|at| hall.board(*at).is_some_and(|shown| shown.belongs_to(&key)))
+            .unwrap_or(0)
     }
 
     /// A connection follows its board no more, if it did.
@@ -118,7 +100,6 @@ impl<'a, R: Wait + Clock, W: Watchers> Common<'a, R, W> {
     /// Tells the service whether a board has as many followers as it may have. Else each refused follow would look at all slots, each of
     /// which is its own word of memory.
     fn counts_followers(&mut self, at: usize) {
-        let is_full = self.boards.is_full(at);
-        self.service.knows_full(at, is_full);
+        self.service.knows_full(at, self.boards.is_full(at));
     }
 }

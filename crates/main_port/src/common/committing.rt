@@ -48,16 +48,9 @@ impl<'a, R: Wait + Clock, W: Watchers> Common<'a, R, W> {
         self.journal_failure.is_none()
     }
 
-    /// Whether boards are kept in a journal.
-    pub(crate) fn has_journal(&self) -> bool
-        ensures { result ≡ is_some self.now.service.scribe }
-    {
-        self.service.has_journal()
-    }
-
     /// How many connections are answered before the answers of all of them are sent.
     pub(crate) fn most_unsent(&self) -> usize {
-        if self.has_journal() {
+        if self.service.has_journal() {
             MOST_UNSENT_WITH_JOURNAL
         } else {
             MOST_UNSENT
@@ -66,7 +59,7 @@ impl<'a, R: Wait + Clock, W: Watchers> Common<'a, R, W> {
 
     /// For how many microseconds those that own a board are served in a turn.
     pub(crate) fn most_owners_micros(&self) -> u64 {
-        if self.has_journal() {
+        if self.service.has_journal() {
             let (least, most) = OWNERS_WITH_JOURNAL_MICROS;
             self.commit_micros.saturating_mul(2).max(least).min(most)
         } else {

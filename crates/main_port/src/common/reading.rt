@@ -13,22 +13,9 @@ use std::time::{Clock, Duration};
 /// For how many microseconds one connection is answered in its turn.
 const MOST_ANSWERED_MICROS: u64 = 50;
 
-/// What came of the next event of a connection.
-#[derive(Clone, Copy, PartialEq, Eq)]
-enum Answered {
-    /// It has said nothing more.
-    Nothing,
-    /// It was answered, and may have said more.
-    Something,
-    /// The same, and a board of it is as far ahead of its followers as it may be.
-    FarAhead,
-    /// So much is due to it that it is not answered before that is written.
-    Full,
-}
-
 impl<'a, R: Wait + Clock, W: Watchers> Common<'a, R, W> {
-    /// Gives a connection its turn, if it is still due one: it is sent what is due, and what it says is answered.
-    pub(super) fn takes_turn(&mut self, client: &mut Client) -> Result<(), Ends> {
+    /// Gives a connection its turn, if it is still due one: it is sent what is due, and for a while it is answered and read.
+    pub(crate) fn takes_turn(&mut self, client: &mut Client) -> Result<(), Ends> {
         if !client.is_queued {
             return Ok(());
         }
@@ -36,12 +23,10 @@ impl<'a, R: Wait + Clock, W: Watchers> Common<'a, R, W> {
         if client.is_blocked() {
             self.send(client)?;
         }
-        self.hear(client)
-    }
-
-    /// Answers what a connection said before, reads what it sends, for a while, and answers that.
-    fn hear(&mut self, client: &mut Client) -> Result<(), Ends> {
-        if !self.is_heard(client) {
+        // What one sends that leaves once what is due to it is written is not read.
+        let is_leaving = client.is_blocked()
+            && self.service.stage(client.number()) == Some(Stage::Leaves);
+        if client.state != State::Interrupted && (is_leaving || !client.is_read()) {
             return Ok(());
         }
         let until = self.time_for(MOST_ANSWERED_MICROS);
@@ -59,13 +44,6 @@ impl<'a, R: Wait + Clock, W: Watchers> Common<'a, R, W> {
         Ok(())
     }
 
-    /// Whether a connection is answered or read in its turn. What one sends that leaves once what is due to it is written is not read.
-    fn is_heard(&self, client: &Client) -> bool {
-        let is_leaving = client.is_blocked()
-            && self.service.stage(client.number()) == Some(Stage::Leaves);
-        client.state == State::Interrupted || client.is_read() && !is_leaving
-    }
-
     /// A connection that was refused to follow is not read for a moment: from now on, however long its answers took.
     fn pauses_if_refused(&mut self, client: &mut Client) {
         if client.refused == 0 || client.state != State::Talks {
@@ -74,18 +52,35 @@ impl<'a, R: Wait + Clock, W: Watchers> Common<'a, R, W> {
         self.clock.look(self.rt);
         let now = self.clock.millis();
         client.state = State::Pauses;
-        let paused = self.backoff.add(client.number(), now, client.refused);
-        if paused.is_err() {
+        if let Err(_) = self.backoff.add(client.number(), now, client.refused) {
             client.has_paused();
         }
     }
 
-    /// Reads once from a connection, and answers what was read until this time. Returns whether it is read again in this turn.
+    /// A connection that has paused is read again.
+    pub(crate) fn ends_pause(&mut self, client: &mut Client) -> Result<(), Ends> {
+        if client.state == State::Pauses {
+            client.has_paused();
+            self.stands_due(client);
+        }
+        Ok(())
+    }
+
+    /// Reads once from a connection, and answers what was read until this time. One to which everything was written has a bound on what is
+    /// dropped. Returns whether it is read again in this turn.
     fn read(&mut self, client: &mut Client, until: Duration) -> Result<bool, Ends> {
         let mut piece = [0; PIECE_BYTES];
         match receive_from(client, &mut self.service, &mut piece)? {
             Intake::Bytes(n) => {
-                self.has_read(client, n, until)?;
+                if n < PIECE_BYTES && client.input == Input::Something {
+                    // This was the last of what had come.
+                    client.input = Input::Nothing;
+                }
+                if !client.drops() {
+                    return Err(Ends::Gone);
+                }
+                self.shakes_hands(client);
+                self.answer(client, until)?;
                 return Ok(true);
             }
             Intake::Nothing => client.input = Input::Nothing,
@@ -93,18 +88,6 @@ impl<'a, R: Wait + Clock, W: Watchers> Common<'a, R, W> {
             Intake::Failed => return Err(Ends::Gone),
         }
         Ok(false)
-    }
-
-    /// So many bytes were read from a connection: they are answered. One to which everything was written has a bound on what is dropped.
-    fn has_read(&mut self, client: &mut Client, n: usize, until: Duration) -> Result<(), Ends> {
-        if n < PIECE_BYTES {
-            client.has_sent_little();
-        }
-        if !client.drops() {
-            return Err(Ends::Gone);
-        }
-        self.shakes_hands(client);
-        self.answer(client, until)
     }
 
     /// If the request of a connection has come by now, it has shaken hands, or was refused.
@@ -128,56 +111,76 @@ impl<'a, R: Wait + Clock, W: Watchers> Common<'a, R, W> {
         if client.state != State::Talks {
             return Ok(());
         }
-        let last = self.answer_until(client, until)?;
-        match last {
-            Answered::Nothing => {}
-            Answered::Something | Answered::FarAhead => client.state = State::Interrupted,
-            Answered::Full => client.waits_for_room(),
-        }
+        let is_far_ahead = self.answer_until(client, until)?;
         self.has_heard(client);
         self.notes_role(client)?;
-        match last {
-            Answered::Nothing | Answered::Full => {}
-            Answered::Something => self.stands_due(client),
-            Answered::FarAhead => return Err(Ends::FarAhead),
+        if is_far_ahead {
+            return Err(Ends::FarAhead);
+        }
+        if client.state == State::Interrupted {
+            self.stands_due(client);
         }
         Ok(())
     }
 
-    /// Answers a connection until this time, unless it has said nothing more, or has to wait before. Returns what came last.
-    fn answer_until(&mut self, client: &mut Client, until: Duration) -> Result<Answered, Ends> {
+    /// Answers a connection until this time, unless it has said nothing more, or has to wait before: its state says that. Returns whether
+    /// a board of it is as far ahead of its followers as it may be.
+    fn answer_until(&mut self, client: &mut Client, until: Duration) -> Result<bool, Ends> {
+        client.state = State::Interrupted;
         for _ in 0..u64::MAX {
-            let answered = self.answer_next(client)?;
-            if answered != Answered::Something || self.is_late(until) {
-                return Ok(answered);
+            if self.service.is_full(client.number()) {
+                client.state = State::Full;
+                if client.follows() {
+                    // The rest of its message is not waited for meanwhile: what is due to it is not its own doing.
+                    client.deadlines.owes_no_rest();
+                }
+                break;
+            }
+            let Some(is_far_ahead) = self.answer_next(client)? else {
+                client.state = State::Talks;
+                break;
+            };
+            if is_far_ahead || self.is_late(until) {
+                return Ok(is_far_ahead);
             }
         }
-        Ok(Answered::Something)
+        Ok(false)
     }
 
-    /// Answers the next event of a connection, and notes what that made of the boards.
-    fn answer_next(&mut self, client: &mut Client) -> Result<Answered, Ends> {
-        if self.service.is_full(client.number()) {
-            return Ok(Answered::Full);
-        }
+    /// Answers the next event of a connection, and notes what that made of the boards. Returns whether one is as far ahead of its followers
+    /// as it may be, or nothing if the connection has said nothing more.
+    fn answer_next(&mut self, client: &mut Client) -> Result<Option<bool>, Ends> {
         let boards = self.service.hall().len();
         let answered = self.service.answer(client.number());
-        let is_far_ahead = self.gather(boards);
+        let is_far_ahead = self.gather();
+        let hall = self.service.hall();
+        if hall.len() > boards {
+            self.watchers.changed(boards);
+            self.log.opened(hall, boards);
+        }
         if self.service.take_turned_away() {
             client.refused = client.refused.saturating_add(1);
         }
-        match answered? {
-            true if is_far_ahead => Ok(Answered::FarAhead),
-            true => Ok(Answered::Something),
-            false => Ok(Answered::Nothing),
-        }
+        Ok(answered?.then_some(is_far_ahead))
     }
 
-    /// Something came from a connection, and was answered.
+    /// Something came from a connection, and was answered. After a message its time begins again. The rest of a message is waited for only
+    /// once everything before it is answered. One whose rest was waited for before goes on to owe it meanwhile: else pings in the middle of
+    /// a message, as many as one turn does not answer, would begin its time again.
     fn has_heard(&mut self, client: &mut Client) {
-        let has_said = self.service.take_said(client.number());
-        let has_come_whole = self.service.take_whole(client.number());
-        let is_midway = self.service.is_midway(client.number());
-        client.has_heard(self.clock.millis(), has_said, has_come_whole, is_midway);
+        let number = client.number();
+        let now = self.clock.millis();
+        if self.service.take_said(number) {
+            client.deadlines.begins(now);
+        }
+        let deadlines = &mut client.deadlines;
+        if self.service.take_whole(number) {
+            deadlines.owes_no_rest();
+        }
+        let owes = match client.state {
+            State::Interrupted | State::Full => deadlines.midway_since.is_some(),
+            _ => self.service.is_midway(number),
+        };
+        deadlines.hears(now, owes);
     }
 }

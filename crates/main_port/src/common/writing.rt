@@ -1,4 +1,4 @@
-//! What a connection is sent: answers, and the moves of the board that it follows.
+//! What a connection is sent, answers and the moves of the board that it follows, and how it leaves once it has been.
 
 use super::Common;
 use crate::client::{Client, Ends, State};
@@ -13,23 +13,20 @@ use std::time::Clock;
 impl<'a, R: Wait + Clock, W: Watchers> Common<'a, R, W> {
     /// Sends a connection what is due, and before that puts the moves of its board behind it, if it follows. If there are more moves, it
     /// has another turn, after the others.
-    pub(super) fn deliver(&mut self, client: &mut Client) -> Result<(), Ends> {
+    pub(crate) fn deliver(&mut self, client: &mut Client) -> Result<(), Ends> {
         if client.is_blocked() {
             return Ok(());
         }
-        let has_more = client.follows() && self.push(client)?;
+        let mut has_more = false;
+        if client.follows() {
+            has_more = self.service.push(client.number())?;
+            self.notes_role(client)?;
+        }
         self.send(client)?;
         if has_more && !client.is_blocked() {
             self.stands_due(client);
         }
         Ok(())
-    }
-
-    /// Puts moves of the board that a connection follows behind what is due to it. Returns whether there are more.
-    fn push(&mut self, client: &mut Client) -> Result<bool, Ends> {
-        let has_more = self.service.push(client.number())?;
-        self.notes_role(client)?;
-        Ok(has_more)
     }
 
     /// Writes to a connection what is due, as far as it takes that. All that boards have is on the disk before, if they are kept there.
@@ -76,5 +73,74 @@ impl<'a, R: Wait + Clock, W: Watchers> Common<'a, R, W> {
         self.service.close(client.number(), Code::AWAY)?;
         self.notes_role(client)?;
         self.send(client)
+    }
+
+    // ---- How it leaves.
+
+    /// A connection that says nothing more leaves the hall and the board that it follows, unless it has before: its boards are ended as
+    /// abandoned, or wait. Returns whether it has left. One with boards leaves only behind the next `tick` if other boards have waited long
+    /// enough and have yet to be ended by that: whoever came back to these in time may not have been heard yet, and the time that comes
+    /// with this connection would end them. Of one that has gone meanwhile there is only the number.
+    pub(crate) fn leaves_hall(&mut self, number: u64, client: Option<&mut Client>) -> bool {
+        let Some(owner) = self.service.owner(number) else {
+            return true;
+        };
+        if owner.key.is_some() || self.service.is_owner(number) {
+            // The millisecond that has begun counts: boards that wait from then on do not wait too little.
+            self.clock.look(self.rt);
+            let now = self.clock.millis().saturating_add(1);
+            let next_due = self.service.hall().next_due();
+            if next_due.is_some_and(|due| due <= now) && self.late.push(number).is_ok() {
+                return false;
+            }
+            self.service.tick(now);
+        }
+        self.service.leave(number);
+        self.gather();
+        if let Some(client) = client {
+            self.leaves_board(client);
+        }
+        if let Some(key) = &owner.key {
+            self.log.came_or_left(self.service.hall(), key);
+        }
+        true
+    }
+
+    /// The output of a connection has ended. It goes, unless something has yet to be sent to it.
+    pub(super) fn hears_the_end(&mut self, client: &mut Client) -> Result<(), Ends> {
+        self.tell_watchers();
+        self.send(client)?;
+        if !client.is_blocked() || matches!(client.state, State::Drains(_)) {
+            return Err(Ends::Gone);
+        }
+        if client.state == State::Comes {
+            self.coming = self.coming.saturating_sub(1);
+        }
+        client.state = State::InputClosed;
+        self.leaves_hall(client.number(), Some(&mut *client));
+        Ok(())
+    }
+
+    /// A connection was sent everything, and is let go: it leaves the hall, and the output to it ends.
+    pub(super) fn drains(&mut self, client: &mut Client) {
+        self.leaves_hall(client.number(), Some(&mut *client));
+        client.drains(self.clock.millis());
+        self.stands_due(client);
+    }
+
+    /// A connection goes, and is none any more.
+    pub(crate) fn lets_go(&mut self, mut client: Client, why: Ends) {
+        if why == Ends::OutOfMemory && self.tell_watchers() {
+            let _ = send_to(&client, &mut self.service);
+        }
+        if client.state == State::Comes {
+            self.coming = self.coming.saturating_sub(1);
+        }
+        let number = client.number();
+        if self.leaves_hall(number, Some(&mut client)) {
+            self.service.disconnect(number);
+        } else {
+            self.leaves_board(&mut client);
+        }
     }
 }
