@@ -12,7 +12,7 @@ use server_loop::{
     Arrival, LISTENER, LoopClock, LoopWaker, MOST_EVENTS, MOST_NEWCOMERS, Poller, Reserve, WAKER,
 };
 use slab::Slab;
-use std::alloc::Global;
+use std::alloc::{AllocError, Global};
 use std::io;
 use std::net::Net;
 use std::sync::{Arc, Wait};
@@ -54,6 +54,15 @@ impl EventLoop {
             boards,
         };
         Ok((event_loop, feed))
+    }
+
+    /// Takes in what it was told so far. What it was told before it runs is known to the first who come.
+    ///
+    /// # Errors
+    ///
+    /// There was no memory.
+    pub fn take_in(&mut self) -> Result<(), AllocError> {
+        self.boards.take_in()
     }
 
     /// What wakes it: to be called when it was told anything, or its port closes.

@@ -2,6 +2,7 @@
 
 import errno
 import fcntl
+import json
 import pathlib
 import stat
 import subprocess
@@ -14,8 +15,8 @@ from relay_client.faults import device_fault
 from relay_client.journals import FIRST_BODY, body, sealed
 from relay_client.program import PATIENCE, PROGRAM
 from relay_client.server import NotListening, Server
-from relay_client.tests.sessions import ABANDONED, guest_of, owner_of, play
-from relay_client.texts import GAME_OVER, OPENED, ended, ends, following, follows, moved, opens, over, played, refused, submits
+from relay_client.tests.sessions import ABANDONED, guest_of, moves_without_a_draw, owner_of, play
+from relay_client.texts import BOARDS, GAME_OVER, OPENED, ended, ends, following, follows, moved, opens, over, played, refused, submits
 
 KEY = "aB3_-9xYzQ0kLmNop"
 NOT_YOURS = refused(13, "NotYourBoard")
@@ -148,6 +149,19 @@ class AfterAKill(Journals):
                     operator.asks(opens("b1"), OPENED)
                 operator.asks(submits("b1", move), played(number))
         self.assertEqual(self.checked(), ([f"board b1: start 518, plies {len(moves)}, goes on", "whole"], 0))
+
+    def test_whoever_watches_first_finds_every_board_with_all_its_moves(self):
+        """There is more of them than a loop of the watch port is told at a time."""
+        boards, moves = [f"b{at}" for at in range(256)], list(moves_without_a_draw())[:80]
+        opened = [[body(opens(board), KEY)] for board in boards]
+        self.path.write_bytes(sealed([[FIRST_BODY], *opened, *([body(submits(board, move))] for move in moves for board in boards)]))
+        with self.serves(*WORDS, "--boards", "256", watch=True) as server:
+            lister, guest = Connection(server.watch_port), Connection(server.watch_port)
+            lister.send(BOARDS)
+            listed = [json.loads(lister.receive()) for _ in boards]
+            self.assertEqual([(it["board"], it["plies"]) for it in listed], [(board, len(moves)) for board in boards])
+            guest.send(follows(boards[-1]))
+            self.assertEqual(json.loads(guest.receive())["joined"], len(moves))
 
     def test_the_file_is_for_its_owner_only(self):
         with self.serves():

@@ -7,7 +7,7 @@ use main_port::Watchers;
 use relay_hall::Hall;
 use relay960_words::{Service, WatchPort};
 use server_loop::LoopWaker;
-use std::alloc::Global;
+use std::alloc::{AllocError, Global};
 use std::io;
 use std::io::ErrorKind;
 use std::net::{Net, SocketAddr, TcpListener};
@@ -20,6 +20,10 @@ use watch_port::{EventLoop, Feed, Port, Publisher};
 /// How many bytes the stack of a loop's thread has. JSON of the greatest nesting, 127, takes some 144 KiB of it, and a request with 64
 /// header fields less.
 const STACK_BYTES: usize = 512 * 1024;
+
+/// How often loops are told of the boards of a journal, and take in what they were told, before they run: more often than the greatest
+/// number of boards and of moves takes, of which a loop is told 4,096 at a time.
+const MOST_TELLINGS: u32 = 8192;
 
 /// A watch port that is listening, and its loops, which are not running yet. Without a watch port there are none.
 #[derive(Drop)]
@@ -79,7 +83,7 @@ impl Watch {
     }
 
     /// Starts the loops, each on a thread of its own. The boards that there are, those of a journal, are told them before: whoever watched
-    /// them may come back at once. What there is no room for is told in the first turns of the main port.
+    /// them may come back at once, and would take a board that lacks moves, or is not there, for another one.
     ///
     /// # Errors
     ///
@@ -93,17 +97,18 @@ impl Watch {
     where
         R: Threads + Wait + Clock + Clone + Send + Drop + 'static,
     {
-        let Watch { port, loops, feeds } = self;
+        let Watch {
+            port,
+            mut loops,
+            feeds,
+        } = self;
         let mut started = Loops {
             port,
             publisher: Publisher::new(alloc, feeds),
             running: Vec::new(alloc),
             has_ended: false,
         };
-        for at in 0..hall.len() {
-            started.changed(at);
-        }
-        started.tell(hall);
+        started.tell_all(hall, &mut loops)?;
         for event_loop in loops {
             let is_started = match spawn(rt, &started.port, event_loop) {
                 Some(running) => started.running.push(running).is_ok(),
@@ -168,6 +173,27 @@ where
 }
 
 impl Loops {
+    /// Tells loops that are not running yet of all boards, and has them take that in.
+    ///
+    /// # Errors
+    ///
+    /// There was no memory.
+    fn tell_all(&mut self, hall: &Hall, loops: &mut Vec<EventLoop>) -> Result<(), AllocError> {
+        for at in 0..hall.len() {
+            self.publisher.marks(at);
+        }
+        for _ in 0..MOST_TELLINGS {
+            let are_told = self.publisher.publish_again(hall);
+            for event_loop in loops.iter_mut() {
+                event_loop.take_in()?;
+            }
+            if are_told {
+                return Ok(());
+            }
+        }
+        Err(AllocError)
+    }
+
     /// Ends the loops once spectators have what they are due, or after a while.
     pub(super) fn end<R: Threads>(self, rt: &R) {
         self.close();
