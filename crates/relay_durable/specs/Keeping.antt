@@ -1,6 +1,6 @@
 -- That what a hall has is in a journal, and what of it is on the disk.
-use Rattle.std.specs.Prelude.{◌≡◌, ◌≤◌, ◌⊎◌, ℕ, false, List, ◌∷◌, length, Option, None, Some}
-use Rattle.chained_lines.specs.Lines.{Line, file_of, no_seal}
+use Rattle.std.specs.Prelude.{◌≡◌, ◌≤◌, ◌⊎◌, ℕ, false, true, List, ◌∷◌, length, Option, None, Some}
+use Rattle.chained_lines.specs.Lines.{Line, are_lines, file_of, no_seal}
 use Rattle.relay_hall.specs.Record.{FloorRecord, HallRecord}
 use Rattle.relay_hall.specs.Runs.{HallEvent, HallStep, HallTold}
 use Rattle.relay_journal.specs.Standing.{StandFor}
@@ -16,6 +16,8 @@ pub record IsOnDisk {S : Type 0} (contents : S → Option (List ℕ)) (synced : 
   pub lines : List Line
   pub boards : StandFor lines f
   pub bytes : (written : List ℕ) → contents s.journal.storage ≡ Some written → written ≡ file_of no_seal lines
+  -- no line feed stands within one, so that they are what is read of these bytes
+  pub whole : (written : List ℕ) → contents s.journal.storage ≡ Some written → are_lines lines ≡ true
   pub synced_all : (written : List ℕ) → contents s.journal.storage ≡ Some written → length written ≤ synced s.journal.storage
 
 -- while nothing has failed, what was noted stands for the boards

@@ -1,6 +1,7 @@
 -- What a hall has accepted, some run of one of the same limits accepts again.
 use Rattle.std.proofs.Common.{refl, ◌≡◌, ℕ, suc, ◌+◌, ◌-◌, ◌^◌, ◌<◌, ◌≤◌, nat_lt, Bool, true, false, cond, is_some, List, [], ◌∷◌, ◌++◌, length, take, Option, None, Some, Result, Ok, inl, ◌∙◌, sym, ap, subst, arith, length-append}
 use Rattle.std.specs.Map.{lookup}
+use Rattle.atomic_table.specs.Seated.{TableId}
 use Rattle.std.proofs.lemmas.Cmp.{nat_list_eq_equiv}
 use Rattle.c960_game.specs.declared.outcome.Outcome.{Outcome}
 use Rattle.c960_game.specs.declared.refusal.Refusal.{Refusal}
@@ -27,8 +28,9 @@ use Rattle.relay_hall.specs.Times.{Came}
 use Rattle.relay_journal.specs.declared.entry.Entry.{Entry}
 use Rattle.relay_journal.specs.declared.entry.Entry.TheVariants.{Opens, Plays, Ends}
 use Rattle.relay_journal.specs.Entries.{Journals}
+use Rattle.relay_journal.specs.Fitting.{AllFit, Games}
 use Rattle.relay_journal.specs.Restarting.{Leads, comes, said_again, said_from, sayer}
-use Rattle.relay_journal.proofs.Fitting.{AllFit, Games, all_of_run, fit_front, games_changed}
+use Rattle.relay_journal.proofs.Fitting.{all_of_run, fit_front, games_changed}
 use Rattle.relay_journal.proofs.Leading.{leads_nowhere, leads_on, leads_said, leads_silent, leads_then}
 
 -- ---- There is room to count those who come.
@@ -110,26 +112,30 @@ length_changed n f (e ∷ es) = by (same_name n e.0) (length_changed n f es)
     by true rest = refl
     by false rest = ap suc rest
 
+-- some table: any will do
+a_table : TableId
+a_table = record { words = 0; slots = 0; views_name = 0; atom = 0; block = 0; offset = 0; slot_names = [] }
+
 accepts : (limits : LimitNumbers) → limits.boards ≤ 2 ^ 32 - 1 → (js : List Entry) (gs hs : Games) → AllFit limits gs js hs → (r : HallRecord) → games_of r.floor ≡ gs
     → r.floor.limits ≡ limits → Few r.keys (length gs) → (g : History) (who : ℕ) → Accepts r g who js
 accepts limits small [] gs hs fit r games same few g who = record { hall = r; leads = leads_nowhere r g }
-accepts limits small (Opens name start key ∷ js) gs hs (mid, (table, ok, mid-is), rest) r games same few g who =
+accepts limits small (Opens name start key ∷ js) gs hs (mid, (ok, mid-is), rest) r games same few g who =
     let room = (opened_where (is_some (lookup (same_name name) gs)) start (length gs) limits.boards tt (sym ok)).2 in
     let come = comes_to r key (length gs) few (omega (arith, room, small)) in
     let r0 : HallRecord = record r { keys = come.0 } in
     let speaker : Owner = record { key = key; opener = who } in
-    let f = with_board r.floor name (new_board r.floor table speaker start) in
+    let f = with_board r.floor name (new_board r.floor a_table speaker start) in
     let r1 : HallRecord = record r0 { floor = f } in
     let answer : answer_to_open r.floor name start ≡ Ok tt =
     ap (λ (x : Games). first_refusal (open_grounds (is_some (lookup (same_name name) x)) start (length x) r.floor.limits.boards)) games
     ∙ ap (λ (x : LimitNumbers). first_refusal (open_grounds (is_some (lookup (same_name name) gs)) start (length gs) x.boards)) same ∙ ok in
     let made : OpensAs r.floor speaker name start (answer_to_open r.floor name start) Opened f =
-    subst (λ (a : Result Unit Refusal). OpensAs r.floor speaker name start a Opened f) (sym answer) (inl (table, refl, refl)) in
+    subst (λ (a : Result Unit Refusal). OpensAs r.floor speaker name start a Opened f) (sym answer) (inl (a_table, refl, refl)) in
     let first : Leads r g (said_again who (Opens name start key)) r1 =
     leads_then r g (comes key) (Says speaker (Open name start) ∷ []) r0 r1 (come.1 g)
     (λ h. leads_said r0 h speaker (Open name start) Opened None r1 ((made, refl), refl) refl) in
     let games1 : games_of f ≡ mid =
-    shown-push (λ (x : HallBoard). x.game) r.floor.boards name (new_board r.floor table speaker start)
+    shown-push (λ (x : HallBoard). x.game) r.floor.boards name (new_board r.floor a_table speaker start)
     ∙ ap (λ (x : Games). x ++ (name, opened start r.floor.limits.plies) ∷ []) games
     ∙ ap (λ (x : LimitNumbers). gs ++ (name, opened start x.plies) ∷ []) same ∙ sym mid-is in
     let size : length mid ≡ length gs + 1 = ap length mid-is ∙ length-append gs ((name, opened start limits.plies) ∷ []) in
@@ -168,9 +174,15 @@ accepts limits small (Ends name ending ∷ js) gs hs (mid, (o, ok, mid-is), rest
     first_then r r1 g who (Ends name ending) js first
     (accepts limits small js mid hs rest r1 games1 limits1 (subst (λ (n : ℕ). Few r.keys n) (sym size) few) first.history (who + 1))
 
+-- what fits is accepted from nobody on, and so are the first of it
+pub fit_again : (limits : LimitNumbers) (grace : ℕ) (js : List Entry) (hs : Games) → limits.boards ≤ 2 ^ 32 - 1 → AllFit limits [] js hs → (n : ℕ)
+    → (l : HallRecord) × Leads (nobody_yet limits grace) [] (said_from 0 (take n js)) l
+fit_again limits grace js hs small all-fit n =
+    let fit = fit_front limits n js [] hs all-fit in
+    let all = accepts limits small (take n js) [] fit.0 fit.1 (nobody_yet limits grace) refl refl (λ q. tt) [] 0 in
+    (all.hall, all.leads)
+
 pub accepted_again : (limits : LimitNumbers) (grace : ℕ) (es : List HallEvent) (ts : List HallTold) (js : List Entry) (k : HallRecord)
     → limits.boards ≤ 2 ^ 32 - 1 → Journals (nobody_yet limits grace) es ts js k → (n : ℕ) → (l : HallRecord) × Leads (nobody_yet limits grace) [] (said_from 0 (take n js)) l
 accepted_again limits grace es ts js k small j n =
-    let fit = fit_front limits n js [] (games_of k.floor) (all_of_run (nobody_yet limits grace) tt es ts js k j) in
-    let all = accepts limits small (take n js) [] fit.0 fit.1 (nobody_yet limits grace) refl refl (λ q. tt) [] 0 in
-    (all.hall, all.leads)
+    fit_again limits grace js (games_of k.floor) small (all_of_run (nobody_yet limits grace) tt es ts js k j) n

@@ -91,7 +91,7 @@ end_of name ending b goes ground =
 
 -- ---- All boards.
 
-nothing_of_all : (es : KeptRows) → missing es es ≡ []
+pub nothing_of_all : (es : KeptRows) → missing es es ≡ []
 nothing_of_all [] = refl
 nothing_of_all (e ∷ es) = ap (λ (js : List Entry). js ++ missing es es) (nothing_of e.0 e.1) ∙ nothing_of_all es
 

@@ -2,7 +2,6 @@
 use Rattle.std.proofs.Common.{refl, ◌≡◌, ℕ, zero, suc, take, ◌+◌, Bool, true, false, cond, is_some, List, [], ◌∷◌, ◌++◌, map, length, Option, None, Some, Result, Ok, Err, inl, inr, ◌∙◌, sym, ap, subst, append_assoc}
 use Rattle.std.specs.Prelude.{◌&&◌, not}
 use Rattle.std.specs.Map.{lookup}
-use Rattle.atomic_table.specs.Seated.{TableId}
 use Rattle.c960_board.specs.Moves.{Triple}
 use Rattle.c960_game.specs.declared.ending.Ending.{Ending}
 use Rattle.c960_game.specs.declared.ending.Ending.TheVariants.{Abandoned}
@@ -34,32 +33,17 @@ use Rattle.relay_hall.specs.Runs.{HallEvent, Comes, Says, Goes, Time, Shuts, End
 use Rattle.relay_journal.specs.declared.entry.Entry.{Entry}
 use Rattle.relay_journal.specs.declared.entry.Entry.TheVariants.{Opens, Plays, Ends as EndsGame}
 use Rattle.relay_journal.specs.Entries.{Journals, ends_in, entries_at, entry_of}
+use Rattle.relay_journal.specs.Fitting.{AllFit, Fits, FitsOn, Games}
 use Rattle.relay_journal.proofs.Changes.{Rows}
 use Rattle.relay_journal.proofs.Steps.{steps}
-
-abbrev pub Games : Type 0
-Games = List (List ℕ × GameRecord)
 
 abbrev pub games_in : Rows → Games
 games_in es = map (λ (e : List ℕ × HallBoard). (e.0, e.1.game)) es
 
--- an entry is accepted, given the games, and leads to these
-abbrev pub Fits : LimitNumbers → Games → Entry → Games → Type 0
-Fits limits gs (Opens name start key) hs =
-    TableId × (first_refusal (open_grounds (is_some (lookup (same_name name) gs)) start (length gs) limits.boards) ≡ Ok tt) × (hs ≡ gs ++ (name, opened start limits.plies) ∷ [])
-Fits limits gs (Plays name m) hs =
-    (x : ℕ × Option Outcome) × (play_answer_at m (lookup (same_name name) gs) ≡ Ok x) × (hs ≡ change_value (same_name name) (λ g. with_move g m) gs)
-Fits limits gs (EndsGame name ending) hs =
-    (o : Outcome) × (end_answer_at ending (lookup (same_name name) gs) ≡ Ok o) × (hs ≡ change_value (same_name name) (ended_by ending) gs)
-
-abbrev pub AllFit : LimitNumbers → Games → List Entry → Games → Type 0
-AllFit limits gs [] hs = hs ≡ gs
-AllFit limits gs (j ∷ js) hs = (mid : Games) × Fits limits gs j mid × AllFit limits mid js hs
-
 fit_one : (limits : LimitNumbers) (gs hs : Games) (j : Entry) → Fits limits gs j hs → AllFit limits gs (j ∷ []) hs
 fit_one limits gs hs j fits = (hs, fits, refl)
 
-fit_append : (limits : LimitNumbers) (gs hs is : Games) (js ks : List Entry) → AllFit limits gs js hs → AllFit limits hs ks is → AllFit limits gs (js ++ ks) is
+pub fit_append : (limits : LimitNumbers) (gs hs is : Games) (js ks : List Entry) → AllFit limits gs js hs → AllFit limits hs ks is → AllFit limits gs (js ++ ks) is
 fit_append limits gs hs is [] ks first then = subst (λ (x : Games). AllFit limits x ks is) first then
 fit_append limits gs hs is (j ∷ js) ks (mid, one, rest) then = (mid, one, fit_append limits mid hs is js ks rest then)
 
@@ -74,12 +58,7 @@ games_changed n f (e ∷ es) = by (same_name n e.0) (games_changed n f es)
     by true rest = refl
     by false rest = ap (λ (l : Games). (e.0, e.1.game) ∷ l) rest
 
--- the boards of a hall after an event
-pub record FitsOn (f : FloorRecord) (js : List Entry) (l : FloorRecord) : Type 0 where
-  pub fits : AllFit f.limits (games_of f) js (games_of l)
-  pub limits : l.limits ≡ f.limits
-
-nothing_new : (f l : FloorRecord) → l ≡ f → FitsOn f [] l
+pub nothing_new : (f l : FloorRecord) → l ≡ f → FitsOn f [] l
 nothing_new f l is = subst (λ (x : FloorRecord). FitsOn f [] x) (sym is) (record { fits = refl; limits = refl })
 
 module _ (f : FloorRecord) (speaker : Owner) where
@@ -93,7 +72,7 @@ module _ (f : FloorRecord) (speaker : Owner) where
       subst (λ (r : Reply). FitsOn f (told (Open name start) r) l) (sym reply-is)
       (subst (λ (x : FloorRecord). FitsOn f (told (Open name start) Opened) x) (sym l-is) (record {
         fits = fit_one f.limits (games_of f) (games_of (with_board f name (new_board f table speaker start))) (Opens name start speaker.key)
-            (table, sym is, shown-push (λ (x : HallBoard). x.game) f.boards name (new_board f table speaker start));
+            (sym is, shown-push (λ (x : HallBoard). x.game) f.boards name (new_board f table speaker start));
         limits = refl;
       }))
   opens name start (Ok u) is reply l (inr (reply-is, l-is)) = subst (λ (r : Reply). FitsOn f (told (Open name start) r) l) (sym reply-is) (nothing_new f l l-is)
@@ -225,7 +204,7 @@ module _ (k : HallRecord) (apart : IsApart k.floor.boards) where
   gone_to who None l l-is = swept_to (is_left_by who) l (ap (λ (x : HallRecord). x.floor) l-is)
   gone_to who (Some key) l (one, others, l-is) = swept_to (is_left_all l.keys key) l (ap (λ (x : HallRecord). x.floor) l-is)
 
-  fits_on : (e : HallEvent) (t : HallTold) (l : HallRecord) → HallStep k e t l → FitsOn k.floor (entries_at k e t l) l.floor
+  pub fits_on : (e : HallEvent) (t : HallTold) (l : HallRecord) → HallStep k e t l → FitsOn k.floor (entries_at k e t l) l.floor
   fits_on (Comes key) Silent l (a, b, c, l-is) = nothing_new k.floor l.floor (ap (λ (x : HallRecord). x.floor) l-is)
   fits_on (Says speaker step) Silent l s = absurd s
   fits_on (Goes who) Silent l s = gone_to who.opener who.key l s
@@ -238,6 +217,14 @@ module _ (k : HallRecord) (apart : IsApart k.floor.boards) where
   fits_on (Time t) (Replied reply handed) l s = absurd s
   fits_on Shuts (Replied reply handed) l s = absurd s
   fits_on Ends (Replied reply handed) l s = absurd s
+
+-- one after another
+pub fits_then : (f g h : FloorRecord) (js ks : List Entry) → FitsOn f js g → FitsOn g ks h → FitsOn f (js ++ ks) h
+fits_then f g h js ks first then = record {
+  fits = fit_append f.limits (games_of f) (games_of g) (games_of h) js ks first.fits
+      (subst (λ (x : LimitNumbers). AllFit x (games_of g) ks (games_of h)) first.limits then.fits);
+  limits = then.limits ∙ first.limits;
+}
 
 pub all_of_run : (k : HallRecord) → IsApart k.floor.boards → (es : List HallEvent) (ts : List HallTold) (js : List Entry) (l : HallRecord)
     → Journals k es ts js l → AllFit k.floor.limits (games_of k.floor) js (games_of l.floor)

@@ -17,4 +17,5 @@ pub mod Recovered
 pub mod Spaces
 pub mod Steps
 pub mod Sweeps
+pub mod Unrefused
 pub mod Written

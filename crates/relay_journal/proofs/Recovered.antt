@@ -46,13 +46,23 @@ one_entry body e f a b =
     same_Some e f (sym (entry_back e) ∙ (λ i. entry_with (key i) (step i)) ∙ entry_back f)
 
 -- and lines say one list of entries
-same_entries : (ls : List Line) (es fs : List Entry) → AllBodies ls es → AllBodies ls fs → es ≡ fs
+pub same_entries : (ls : List Line) (es fs : List Entry) → AllBodies ls es → AllBodies ls fs → es ≡ fs
 same_entries [] [] [] a b = refl
 same_entries [] [] (f ∷ fs) a b = absurd b
 same_entries [] (e ∷ es) fs a b = absurd a
 same_entries (l ∷ ls) [] fs a b = absurd a
 same_entries (l ∷ ls) (e ∷ es) [] a b = absurd b
 same_entries (l ∷ ls) (e ∷ es) (f ∷ fs) a b = λ i. one_entry l.body e f a.0 b.0 i ∷ same_entries ls es fs a.1 b.1 i
+
+-- behind the entries of the first of some lines are those of the others
+pub behind_first : (ls more : List Line) (es got : List Entry) → AllBodies ls es → AllBodies (ls ++ more) got → (later : List Entry) × (got ≡ es ++ later)
+behind_first [] more [] got a b = (got, refl)
+behind_first [] more (e ∷ es) got a b = absurd a
+behind_first (l ∷ ls) more [] got a b = absurd a
+behind_first (l ∷ ls) more (e ∷ es) [] a b = absurd b
+behind_first (l ∷ ls) more (e ∷ es) (g ∷ got) a b =
+    let rest = behind_first ls more es got a.1 b.1 in
+    (rest.0, λ i. one_entry l.body g e b.0 a.0 i ∷ rest.1 i)
 
 first_bodies : (n : ℕ) (ls : List Line) (es : List Entry) → AllBodies ls es → AllBodies (take n ls) (take n es)
 first_bodies zero ls es all = tt

@@ -13,6 +13,7 @@ use Rattle.relay_journal.specs.declared.noted.Noted.{Noted}
 use Rattle.relay_journal.specs.Behind.{behind_all}
 use Rattle.relay_journal.specs.Bodies.{AllBodies, IsBody, SaysEntries, first_body}
 use Rattle.relay_journal.specs.Differences.{AllGoOn, missing}
+use Rattle.relay_journal.specs.Fitting.{FitsOn}
 use Rattle.relay_journal.specs.Kept.{kept_of}
 use Rattle.relay_journal.specs.Restarting.{Leads, said_from}
 use Rattle.relay_journal.specs.Scribes.{ScribeRecord, noted_in}
@@ -55,14 +56,14 @@ module _ {S : Type 0} (contents : S → Option (List ℕ)) (synced : S → ℕ) 
   -- ---- Boards.
 
   pub written_on : (old new : ScribeRecord S) (f g : FloorRecord) → AreApart (kept_of g) → AllGoOn (kept_of f) (kept_of g)
-      → AreNoted contents synced old.journal new.journal (behind_all old.noted (kept_of g)) → new.noted ≡ noted_in g → new.has_failed ≡ old.has_failed
+      → FitsOn f (missing (kept_of f) (kept_of g)) g → AreNoted contents synced old.journal new.journal (behind_all old.noted (kept_of g)) → new.noted ≡ noted_in g → new.has_failed ≡ old.has_failed
       → IsWritten contents synced old f → IsWritten contents synced new g
-  written_on old new f g apart on entries noted failed was =
+  written_on old new f g apart on fits entries noted failed was =
       let same : behind_all old.noted (kept_of g) ≡ missing (kept_of f) (kept_of g) =
       ap (λ (ns : List Noted). behind_all ns (kept_of g)) was.noted ∙ behind_is (kept_of f) (kept_of g) on in
       record {
         ls = was.ls ++ entries.more;
-        boards = more_stand was.ls entries.more f g (missing (kept_of f) (kept_of g)) (missing_leads (kept_of f) (kept_of g) apart on) was.boards
+        boards = more_stand was.ls entries.more f g (missing (kept_of f) (kept_of g)) (missing_leads (kept_of f) (kept_of g) apart on) fits was.boards
             (subst (λ (es : List Entry). AllBodies entries.more es) same entries.said);
         noted = noted;
         lines = λ w known. entries.lines was.ls (was.lines w (ap contents (sym entries.storage) ∙ known));

@@ -2,6 +2,7 @@ pub mod Behind
 pub mod Bodies
 pub mod Differences
 pub mod Entries
+pub mod Fitting
 pub mod Inner
 pub mod Kept
 pub mod Restarting

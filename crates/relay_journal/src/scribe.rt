@@ -5,9 +5,10 @@ ghost use Rattle.chained_lines.specs.Journals.{HoldsLines, KeepsLines, IsKnownFr
 ghost use Rattle.chained_lines.specs.Lines.{Line};
 ghost use Rattle.chained_lines.specs.Storage.{Failed};
 ghost use Rattle.relay_hall.specs.Record.{FloorRecord, HallRecord};
-ghost use Rattle.relay_hall.specs.Runs.{HallEvent, HallTold, HallStep};
+ghost use Rattle.relay_hall.specs.Runs.{HallEvent, HallTold, HallStep, IsReached};
 ghost use Rattle.relay_journal.specs.Bodies.{first_body};
-ghost use Rattle.relay_journal.specs.Differences.{AllGoOn};
+ghost use Rattle.relay_journal.specs.Differences.{AllGoOn, missing};
+ghost use Rattle.relay_journal.specs.Fitting.{FitsOn};
 ghost use Rattle.relay_journal.specs.Kept.{kept_of};
 ghost use Rattle.relay_journal.specs.Scribes.{noted_in};
 ghost use Rattle.relay_journal.specs.Writing.{HoldsIfKnown, IsWritten};
@@ -86,10 +87,12 @@ impl<S: StableStorage> Scribe<S> {
     ///
     /// There was no memory, or no line tells the key of an owner. Some of what was missing may have been noted.
     fn note_missing(&mut self, alloc: Global, hall: &Hall) -> Result<(), NoteError>
-        ensures onward { (f : FloorRecord) → AllGoOn (kept_of f) (kept_of hall.now.floor) → IsWritten S.contents S.synced self.old f
+        ensures onward { (f : FloorRecord) → AllGoOn (kept_of f) (kept_of hall.now.floor)
+            → FitsOn f (missing (kept_of f) (kept_of hall.now.floor)) hall.now.floor → IsWritten S.contents S.synced self.old f
             → OnOk result (IsWritten S.contents S.synced self.new hall.now.floor) }
         ensures storage { self.new.journal.storage ≡ self.old.journal.storage }
         ensures failed { self.new.has_failed ≡ self.old.has_failed }
+        ensures reached { IsReached hall.now }
     {
         note_all(&mut self.journal, alloc, hall, &self.noted)?;
         keep_noted(&mut self.noted, hall)?;
