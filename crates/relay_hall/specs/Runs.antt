@@ -1,5 +1,5 @@
 -- What happens in a hall, one event after another, and the history that this makes.
-use Rattle.std.specs.Prelude.{◌≡◌, ◌⊎◌, ◌+◌, ◌-◌, ◌<◌, ⊤, ℕ, Bool, true, false, cond, not, is_some, ◌&&◌, ◌||◌, List, [], ◌∷◌, ◌++◌, Option, None, Some}
+use Rattle.std.specs.Prelude.{◌≡◌, ◌⊎◌, ◌+◌, ◌-◌, ◌<◌, ℕ, Bool, true, false, cond, not, is_some, ◌&&◌, ◌||◌, List, [], ◌∷◌, ◌++◌, Option, None, Some}
 use Rattle.c960_game.specs.declared.ending.Ending.TheVariants.{Abandoned}
 use Rattle.c960_game.specs.declared.outcome.Outcome.TheVariants.{Abandoned as AbandonedOutcome}
 use Rattle.relay_core.specs.declared.reply.Reply.{Reply}
@@ -189,8 +189,8 @@ pub record IsHandedOf (f : FloorRecord) (name : List ℕ) (joined : ℕ) (positi
 
 -- ---- Who is in time.
 
--- a key is held, or its boards wait, until a time that has not come, and somebody can come back
+-- a connection has the key, or its boards wait, until a time that has not come, and somebody can come back
 abbrev pub IsInTime : ℕ → Bool → Option Presence → Type 0
 IsInTime time shut None = ⊥
-IsInTime time shut (Some (Here present)) = ⊤
+IsInTime time shut (Some (Here present)) = 0 < present
 IsInTime time shut (Some (Waits until)) = (time < until) × (shut ≡ false)

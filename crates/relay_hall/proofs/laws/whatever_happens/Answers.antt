@@ -10,7 +10,7 @@ use Rattle.std.proofs.lemmas.Option.{none-some}
 use Rattle.relay_hall.proofs.lemmas.Counting.{all_counted, all_may}
 use Rattle.relay_hall.proofs.lemmas.Holding.{handed_of, left_only, runs_held}
 use Rattle.relay_hall.proofs.lemmas.Leaving.{over_at_last}
-use Rattle.relay_hall.proofs.lemmas.InTime.{in_time, runs_in_time}
+use Rattle.relay_hall.proofs.lemmas.InTime.{in_time, runs_here, runs_in_time}
 use Rattle.relay_hall.specs.Runs.{has_gone}
 use Rattle.relay_hall.proofs.laws.whatever_happens.Goals as goal
 
@@ -40,7 +40,8 @@ returns-clause-there c = λ limits grace es ts h l r orderly name b there keyles
 
 pub returns-clause-held : goal.returns-clause-held
 returns-clause-held c = λ limits grace es ts h l r here name b there key has on.
-    in_time l (runs_in_time (nobody_yet limits grace) _ (λ q until waits. absurd (none-some _ waits)) es ts h l r) key
+    in_time l (runs_in_time (nobody_yet limits grace) _ (λ q until waits. absurd (none-some _ waits)) es ts h l r)
+    (runs_here (nobody_yet limits grace) _ (λ q n is. absurd (none-some _ is)) es ts h l r) key
     (runs_held (nobody_yet limits grace) _ (λ q x at. absurd (none-some x at)) es ts h l r
     (all_may (nobody_yet limits grace) _ (λ q. 0) (λ q. refl) es ts h l r here) name b there key has (ap is_some on))
 
