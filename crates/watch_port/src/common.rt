@@ -99,7 +99,8 @@ impl<'a> Common<'a> {
         client.connection.doing = Doing::WatchesAll(0);
         self.list.spectators.insert(client.key)?;
         // The others are told at the end of the turn, of all that has changed by then.
-        self.list.make_texts(&self.boards, self.clock.passed().as_secs())
+        self.list
+            .make_texts(&self.boards, self.clock.passed().as_secs())
     }
 
     /// A client no longer watches anything.
