@@ -26,7 +26,7 @@ import threading
 import time
 
 import build
-from crates import SOURCES, Crates
+from crates import SOURCES, TESTS, Crates
 from edits import BadEdit, Edit, alone_in_copy, copies_of
 from makers import check_words
 from workplace import link_or_copy, scratch_folder, width_of_machine
@@ -168,10 +168,12 @@ class Trial:
         for path, text in copy.texts.items():
             (room / path).write_text(text)
         words = check_words(self.crates, name, self.library_of)
-        only = [word for it in copy.functions() for word in ("--only", it)]
+        words += [word for it in copy.functions() for word in ("--only", it)]
+        # A crate of tests is read with its tests, since what it has beside them may stand under `cfg(test)`.
+        words += ["--test"] if name.endswith(TESTS) else []
         try:
             with self.proved.lent(name) as lent:
-                return ended([*words, *only, "--incremental", str(lent)], room)
+                return ended([*words, "--incremental", str(lent)], room)
         finally:
             shutil.rmtree(room, ignore_errors=True)
 

@@ -274,13 +274,13 @@ class ByTheKit(Scene):
         super().setUp()
         (self.folder / "src/shapes.rt").unlink()
 
-    def tried(self):
+    def tried(self, name="numbers"):
         crates = Crates(self.top)
-        edits, bad = refused.edits_in(crates, ["numbers"], "refused")
+        edits, bad = refused.edits_in(crates, [name], "refused")
         trial = refused.Trial(crates, self.top, None)
         with contextlib.redirect_stdout(io.StringIO()):
-            for copy in copies_of(edits["numbers"], 12):
-                trial.try_copy("numbers", copy)
+            for copy in copies_of(edits[name], 12):
+                trial.try_copy(name, copy)
         return {it.edit.key.partition("/")[2]: it.is_refused for it in trial.verdicts}, trial.count, bad
 
     def test_only_a_wrong_body_is_refused(self):
@@ -295,6 +295,15 @@ class ByTheKit(Scene):
     def test_a_function_that_only_calls_an_edited_one_is_not_refused(self):
         self.edit("of_the_other", ("    x", "    x.wrapping_add(1)"), functions="twice")
         self.assertEqual(self.tried(), ({"of_the_other.edit": False}, 1, []))
+
+    def test_a_crate_of_tests_is_read_with_its_tests(self):
+        (self.folder / "src/lib.rt").write_text(ROOT.replace("/// The number itself.", "#[cfg(test)]")
+                                                .replace("/// The number, by way of two calls.", "#[cfg(test)]"))
+        self.edit("one_more", ("    x", "    x.wrapping_add(1)"))
+        self.edit("means_the_same", ("    same(same(x))", "    same(x)"))
+        self.folder.rename(self.top / "crates/numbers_tests")
+        (self.top / "crates.txt").write_text("numbers_tests:\n")
+        self.assertEqual(self.tried("numbers_tests"), ({"one_more.edit": True, "means_the_same.edit": False}, 2, []))
 
 
 if __name__ == "__main__":

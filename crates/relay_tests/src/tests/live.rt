@@ -5,8 +5,8 @@ use crate::tests::again::{follow, open};
 use crate::tests::claims::claim;
 use crate::tests::deeds::{is_full, leaves, plays};
 use crate::tests::pushing::{NO_DEVICE, assert_cut};
+use crate::tests::relays::table::limits_of;
 use crate::tests::values::account;
-use c960_game::Limits;
 use live_board::{Board, Follower};
 use relay_core::Taken;
 use relay_pushing::{PushEnd, Source};
@@ -31,8 +31,7 @@ impl Source for Live {
 
 /// A board that one spectator may follow and whose queues hold two moves, and its follower, which was closed when the third move was made.
 fn full_queue(rt: &impl Abort, alloc: Global) -> (Board, Live) {
-    let limits = Limits::new(1, 1, 2, 64).expect(rt, "limits");
-    let mut board = open(rt, alloc, limits);
+    let mut board = open(rt, alloc, limits_of(rt, (1, 1, 2, 64)));
     let follower = follow(rt, &mut board, None);
     for (place, text) in [(0, "e2e4"), (1, "e7e5"), (2, "g1f3")] {
         claim(rt, plays(rt, &mut board, place, text), text);

@@ -1,5 +1,6 @@
 //! Games of many moves.
 
+use crate::tests::relays::table::limits_of as limits_of_boards;
 use crate::tests::values::{NINETY_EIGHT, move_of};
 use c960_board::Move;
 use c960_game::Limits;
@@ -8,13 +9,13 @@ use std::process::Abort;
 
 /// The limits of one board: followers, capacity, plies.
 pub fn limits_of(rt: &impl Abort, followers: u16, capacity: u16, plies: u16) -> Limits {
-    Limits::new(1, followers, capacity, plies).expect(rt, "limits")
+    limits_of_boards(rt, (1, followers, capacity, plies))
 }
 
-/// The moves of a line.
+/// The moves of a line, in which one space stands between two.
 pub fn line_of(rt: &impl Abort, alloc: Global, line: &str) -> Vec<Move> {
     let mut moves = Vec::new(alloc);
-    for text in line.split_whitespace() {
+    for text in line.split(' ') {
         moves.push(move_of(rt, text)).expect(rt, "memory");
     }
     moves
