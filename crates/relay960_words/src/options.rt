@@ -95,25 +95,27 @@ pub(crate) fn with_limits<'a>(
     let followers = "How many followers a board may have";
     let capacity = "How many moves a follower's queue holds";
     let plies = "How many plies a game may have";
-    command
-        .arg(number_option(alloc, "boards", boards, 1, u32::from(MOST_BOARDS), "16"))?
-        .arg(number_option(
+    let options = vec![in alloc;
+        number_option(alloc, "boards", boards, 1, u32::from(MOST_BOARDS), "16"),
+        number_option(
             alloc,
             "followers",
             followers,
             1,
             u32::from(MOST_FOLLOWERS),
-            "64",
-        ))?
-        .arg(number_option(
+            "64"
+        ),
+        number_option(
             alloc,
             "capacity",
             capacity,
             1,
             u32::from(MOST_CAPACITY),
-            "64",
-        ))?
-        .arg(number_option(alloc, "plies", plies, 1, u32::from(MOST_PLIES), "1024"))
+            "64"
+        ),
+        number_option(alloc, "plies", plies, 1, u32::from(MOST_PLIES), "1024"),
+    ]?;
+    command.args(options)
 }
 
 /// The command with the options of a service, except those of its limits.
@@ -137,16 +139,18 @@ pub(crate) fn with_service<'a>(
         "How many seconds a peer that owns and follows nothing may send nothing; 0: without an end";
     let log =
         "Write a line to standard error for what happens to each board, and counts once a minute";
-    command
-        .arg(number_option(alloc, "port", port, 1, 65535, "9600"))?
-        .arg(number_option(alloc, "connections", connections, 1, 1_000_000, "1000000"))?
-        .arg(flag_option(alloc, "forever", forever))?
-        .arg(flag_option(alloc, "until-input-ends", until_input_ends))?
-        .arg(number_option(alloc, "grace", grace, 0, 3600, "0"))?
-        .arg(number_option(alloc, "idle", idle, 0, 86_400, "600"))?
-        .arg(flag_option(alloc, "log", log))?
-        .arg(text_option(alloc, "watch", "ADDRESS:PORT", watch))?
-        .arg(number_option(alloc, "watch-threads", watch_threads, 1, 64, "2"))?
-        .arg(number_option(alloc, "watch-most", watch_most, 1, 1_000_000, "100000"))?
-        .arg(text_option(alloc, "journal", "FILE", journal))
+    let options = vec![in alloc;
+        number_option(alloc, "port", port, 1, 65535, "9600"),
+        number_option(alloc, "connections", connections, 1, 1_000_000, "1000000"),
+        flag_option(alloc, "forever", forever),
+        flag_option(alloc, "until-input-ends", until_input_ends),
+        number_option(alloc, "grace", grace, 0, 3600, "0"),
+        number_option(alloc, "idle", idle, 0, 86_400, "600"),
+        flag_option(alloc, "log", log),
+        text_option(alloc, "watch", "ADDRESS:PORT", watch),
+        number_option(alloc, "watch-threads", watch_threads, 1, 64, "2"),
+        number_option(alloc, "watch-most", watch_most, 1, 1_000_000, "100000"),
+        text_option(alloc, "journal", "FILE", journal),
+    ]?;
+    command.args(options)
 }

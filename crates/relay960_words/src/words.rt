@@ -1,8 +1,8 @@
 //! The command-line arguments, read by `clap`.
 
-ghost use Rattle.std.specs.Prelude.{◌≡◌, false, IfErr, IfOk, List, MatchResult, ℕ, Ok, Some, map};
+ghost use Rattle.std.specs.Prelude.{◌≡◌, false, true, IfErr, IfOk, List, MatchResult, ℕ, Ok, Some, map};
 ghost use Rattle.std.specs.Net.Grammar.{IsSocketText};
-ghost use Rattle.clap.specs.Words.{app_of, first_value, found_of, kind_of, new_app, one_text, rule_of, subcommand_of, subcommand_rows_of, with_rule};
+ghost use Rattle.clap.specs.Words.{App, app_of, first_value, found_of, kind_of, new_app, one_text, rule_of, subcommand_of, subcommand_rows_of, with_rule, with_subcommand};
 ghost use Rattle.clap.specs.Walk.{rows_of};
 ghost use Rattle.relay960_words.specs.CommandLine as line;
 ghost use Rattle.relay960_words.specs.Statuses.{IsFault};
@@ -92,16 +92,26 @@ fn versioned_command<'a>(alloc: Global) -> Command<'a>
         .after_help("Without a command: script, with the default limits")
 }
 
+/// The command with a subcommand, if that one was made.
+fn with_command<'a>(
+    command: Command<'a>,
+    made: Result<Command<'a>, AllocError>,
+) -> Result<Command<'a>, AllocError>
+    ensures { (a : App) → a.top.is_plain ≡ true → IfOk made.entry (λ c. app_of c ≡ a)
+        → IfOk result (λ c. app_of c ≡ with_subcommand (app_of command.entry) a.top) }
+{
+    command.subcommand(made?)
+}
+
 fn program_command<'a>(alloc: Global) -> Result<Command<'a>, AllocError>
     ensures { IfOk result (λ c. app_of c ≡ line.program) }
 {
-    versioned_command(alloc)
-        .subcommand(start_command(alloc)?)?
-        .subcommand(moves_command(alloc)?)?
-        .subcommand(play_command(alloc)?)?
-        .subcommand(script_command(alloc)?)?
-        .subcommand(serve_command(alloc)?)?
-        .subcommand(journal_command(alloc)?)
+    let program = with_command(versioned_command(alloc), start_command(alloc))?;
+    let program = with_command(program, moves_command(alloc))?;
+    let program = with_command(program, play_command(alloc))?;
+    let program = with_command(program, script_command(alloc))?;
+    let program = with_command(program, serve_command(alloc))?;
+    with_command(program, journal_command(alloc))
 }
 
 /// What the arguments ask for. The first of them is the program's name.

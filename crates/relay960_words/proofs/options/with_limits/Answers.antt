@@ -1,17 +1,35 @@
-use Rattle.std.proofs.Common.{rules, ap, ap₂, codes, ◌≡◌, ◌∙◌}
+use Rattle.std.proofs.Common.{rules, codes, List, ◌∷◌, [], subst, sym}
 use Rattle.std.proofs.lemmas.Result.{IfOk-weaker}
 use Rattle.c960_game.specs.declared.limits.TheConstants.{MOST_BOARDS, MOST_CAPACITY, MOST_FOLLOWERS, MOST_PLIES}
-use Rattle.clap.specs.Words.{rule_of, with_rule}
+use Rattle.clap.specs.Words.{Rule}
+use Rattle.clap.specs.declared.builder.arg.Arg.{Arg}
 use Rattle.relay960_words.specs.CommandLine.{option_rule}
+use Rattle.relay960_words.proofs.Adding.{HaveRules, added-in-turn}
 use Rattle.relay960_words.proofs.options.with_limits.Goals as goal
 
 pub returns : goal.returns
 returns c =
-    let boards : rule_of c.number_option.result ≡ option_rule (codes "boards") 1 MOST_BOARDS (codes "16") = search rules in
-    let followers : rule_of c.number_option-2.result ≡ option_rule (codes "followers") 1 MOST_FOLLOWERS (codes "64") = search rules in
-    let capacity : rule_of c.number_option-3.result ≡ option_rule (codes "capacity") 1 MOST_CAPACITY (codes "64") = search rules in
-    let plies : rule_of c.number_option-4.result ≡ option_rule (codes "plies") 1 MOST_PLIES (codes "1024") = search rules in
-    let one = c.in_ok-arg.ensures.shape c.number_option.ensures.local ∙ ap (with_rule _) boards in
-    let two = c.in_ok-arg-2.ensures.shape c.number_option-2.ensures.local ∙ ap₂ with_rule one followers in
-    let three = c.in_ok-arg-3.ensures.shape c.number_option-3.ensures.local ∙ ap₂ with_rule two capacity in
-    IfOk-weaker c.arg-4.result _ _ (λ r added. added.shape c.number_option-4.ensures.local ∙ ap₂ with_rule three plies) c.arg-4.ensures
+    let rs : List Rule =
+    option_rule (codes "boards") 1 MOST_BOARDS (codes "16") ∷
+    option_rule (codes "followers") 1 MOST_FOLLOWERS (codes "64") ∷
+    option_rule (codes "capacity") 1 MOST_CAPACITY (codes "64") ∷
+    option_rule (codes "plies") 1 MOST_PLIES (codes "1024") ∷ [] in
+    let xs : List Arg =
+    c.number_option.result ∷ c.number_option-2.result ∷ c.number_option-3.result ∷ c.number_option-4.result ∷
+    [] in
+    let have : HaveRules xs rs = (
+      c.number_option.ensures.local,
+      search rules,
+      (
+        c.number_option-2.ensures.local,
+        search rules,
+        (
+          c.number_option-3.ensures.local,
+          search rules,
+          (c.number_option-4.ensures.local, search rules, tt),
+        ),
+      ),
+    ) in
+    IfOk-weaker c.args-2.result _ _
+    (λ r added. added-in-turn _ r _ rs added (subst (λ (l : List Arg). HaveRules l rs) (sym c.in_ok-options.ensures.items) have))
+    c.args-2.ensures
