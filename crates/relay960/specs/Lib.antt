@@ -4,3 +4,4 @@ pub mod Serving
 pub mod Reports
 pub mod Failures
 pub mod JournalEnds
+pub mod Journals

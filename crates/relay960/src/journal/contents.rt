@@ -4,6 +4,7 @@ ghost use Rattle.std.specs.Prelude.{drop, IfOk};
 ghost use Rattle.chained_lines.specs.Lines.{no_seal, read_lines};
 ghost use Rattle.relay_journal.specs.Bodies.{SaysEntries};
 ghost use Rattle.relay960.specs.JournalEnds.{IsEnd};
+ghost use Rattle.relay960.specs.Journals.{IsSound};
 
 use crate::journal::damage::{JournalDamage, Place};
 use crate::journal::end::{JournalEnd, end_of};
@@ -124,6 +125,7 @@ pub(super) fn contents_of<'a, 'b>(
     bytes: &'b [u8],
 ) -> Result<Contents<'b>, ServeFault<'a>>
     ensures entries { IfOk result (λ c. SaysEntries (read_lines no_seal bytes.now) c.entries.items) }
+    ensures sound { IfOk result (λ c. IsSound bytes.now c.sound) }
     ensures end { IfOk result (λ c. IsEnd (drop c.sound.bytes bytes.now) c.end) }
 {
     let sound = sound_part(bytes);

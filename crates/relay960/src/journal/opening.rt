@@ -1,9 +1,10 @@
 //! A journal with which a relay goes on.
 
-ghost use Rattle.std.specs.Prelude.{IfOk, List};
+ghost use Rattle.std.specs.Prelude.{◌≡◌, IfOk, List, nat_lt, true};
 ghost use Rattle.chained_lines.specs.Lines.{Line};
 ghost use Rattle.relay_journal.specs.Bodies.{SaysEntries};
 ghost use Rattle.relay_durable.specs.Keeping.{IsJournalOf};
+ghost use Rattle.relay960.specs.Journals.{GoesOnBehind};
 
 use crate::journal::contents::{Contents, contents_of, read_all};
 use crate::journal::end::JournalEnd;
@@ -100,8 +101,9 @@ fn journal_in(
     len: usize,
     contents: Contents<'_>,
 ) -> Result<Opened, NoteError>
-    ensures { (ls : List Line) → SaysEntries ls contents.entry.entries.items → IfOk result (λ o.
+    ensures journal { (ls : List Line) → SaysEntries ls contents.entry.entries.items → IfOk result (λ o.
         IsJournalOf ⟦<StableFile as StableStorage>⟧.contents ⟦<StableFile as StableStorage>⟧.synced o.journal o.entries.items) }
+    ensures behind { nat_lt 0 contents.entry.sound.lines ≡ true → IfOk result (λ o. GoesOnBehind contents.entry.sound len o.journal) }
 {
     let Contents { entries, sound, .. } = contents;
     let storage = StableFile::behind(file, sound.bytes as u64, len as u64);
